@@ -1,0 +1,41 @@
+-- A record's code in a list of codes, test by test; and that no two of the sixteen codes share their bytes.
+-- Assumes nothing.
+use mathlib.Core.Path.{_≡_, refl, sym, _∙_}
+use mathlib.Core.Bool.{Bool, true, false}
+use mathlib.Core.Logic.{_⊎_, inl, inr}
+use mathlib.Core.List.{List, [], _∷_, map}
+use Prim.Native.Nat.{ℕ}
+use Rattle.record.specs.declared.codes.Code.{Code}
+use Rattle.record.specs.declared.codes.Code.the-variants.{Unknown}
+use Rattle.record.specs.Choice.{_and_, choose}
+use Rattle.record.specs.Tests.{alike}
+use Rattle.record.specs.Codes.{codeIn, codeBytes, letterByte, codes}
+use Rattle.record.proofs.Same.{alike-equal}
+
+pub code-here : (c : Code) (cs : List Code) (xs : List ℕ) → alike xs (codeBytes c) ≡ true → c ≡ codeIn (c ∷ cs) xs
+unfolding codeIn choose
+code-here c cs xs e = rw e
+
+pub code-next : (c d : Code) (cs : List Code) (xs : List ℕ) → alike xs (codeBytes c) ≡ false → d ≡ codeIn cs xs → d ≡ codeIn (c ∷ cs) xs
+unfolding codeIn choose
+code-next c d cs xs e h = rw e h
+
+pub code-none : (xs : List ℕ) → Unknown ≡ codeIn [] xs
+unfolding codeIn
+code-none xs = refl
+
+-- each of the sixteen codes is the one that its own bytes give: no two share their bytes
+pub codes-apart : map (λ (c : Code). codeIn codes (codeBytes c)) codes ≡ codes
+unfolding codeIn codeBytes letterByte alike choose _and_
+codes-apart = refl
+
+-- a code that is found is known by its bytes
+pub code-bytes : (cs : List Code) (xs : List ℕ) → (codeIn cs xs ≡ Unknown) ⊎ (xs ≡ codeBytes (codeIn cs xs))
+unfolding codeIn choose
+code-bytes [] xs = inl refl
+code-bytes (c ∷ cs) xs = go (alike xs (codeBytes c)) refl (code-bytes cs xs)
+  where
+    go : (t : Bool) → alike xs (codeBytes c) ≡ t → (codeIn cs xs ≡ Unknown) ⊎ (xs ≡ codeBytes (codeIn cs xs))
+        → (choose (alike xs (codeBytes c)) c (codeIn cs xs) ≡ Unknown) ⊎ (xs ≡ codeBytes (choose (alike xs (codeBytes c)) c (codeIn cs xs)))
+    go true e h = inr (alike-equal xs (codeBytes c) e ∙ rw e)
+    go false e h = rw e h

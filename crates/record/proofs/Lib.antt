@@ -1,0 +1,8 @@
+pub mod Chain
+pub mod Every
+pub mod Same
+pub mod Numbers
+pub mod Orders
+pub mod Table
+pub mod CodeList
+mod Prefix

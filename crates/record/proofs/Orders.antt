@@ -1,0 +1,170 @@
+-- The order of values by bytes: total, and read from the front.
+-- Assumes nothing.
+use mathlib.Core.Path.{_≡_, refl, sym, ap, _∙_}
+use mathlib.Core.Bool.{Bool, true, false}
+use mathlib.Core.List.{List, [], _∷_}
+use Prim.Native.Nat.{ℕ, zero, suc, _+_, _≤_, _<_, min}
+use native.Mathlib.Numerals.{add-one}
+use native.Mathlib.Nat.{lt-irrefl}
+use native.Mathlib.Omega.{arith}
+use borrow.Author.Tests.{lt-ltb, le-ltb}
+use lib.Dec.{ltb}
+use lib.ListN.{length, drop, getD, drop-of-length-le}
+use lib.Seq.{drop-cons}
+use Rattle.record.specs.declared.place.Place.{Place}
+use Rattle.record.specs.declared.Order.{Order}
+use Rattle.record.specs.declared.Order.the-variants.{Before, Same, After}
+use Rattle.record.specs.Choice.{choose}
+use Rattle.record.specs.Place.{Within, value}
+use Rattle.record.specs.Ordering.{order}
+use Rattle.record.proofs.Every.{value-length}
+
+-- by the first byte
+before : (x y : ℕ) (xs ys : List ℕ) → x < y → order (x ∷ xs) (y ∷ ys) ≡ Before
+unfolding order choose
+before x y xs ys h = rw (lt-ltb x y h)
+
+after : (x y : ℕ) (xs ys : List ℕ) → y < x → order (x ∷ xs) (y ∷ ys) ≡ After
+unfolding order choose
+after x y xs ys h = rw (le-ltb x y (omega arith), lt-ltb y x h)
+
+level : (x y : ℕ) (xs ys : List ℕ) → x ≤ y → y ≤ x → order (x ∷ xs) (y ∷ ys) ≡ order xs ys
+unfolding order choose
+level x y xs ys h k = rw (le-ltb x y k, le-ltb y x h)
+
+-- which of the three
+data Side (x y : ℕ) : Type 0 where
+  less : x < y → Side x y
+  more : y < x → Side x y
+  same : x ≤ y → y ≤ x → Side x y
+
+side : (x y : ℕ) → Side x y
+side zero zero = same (omega arith) (omega arith)
+side zero (suc y) = less (omega arith)
+side (suc x) zero = more (omega arith)
+side (suc x) (suc y) = up (side x y)
+  where
+    up : Side x y → Side (suc x) (suc y)
+    up (less h) = less (omega arith)
+    up (more h) = more (omega arith)
+    up (same h k) = same (omega arith) (omega arith)
+
+-- the other way round
+pub turned : Order → Order
+turned Before = After
+turned Same = Same
+turned After = Before
+
+pub order-turned : (xs ys : List ℕ) → order ys xs ≡ turned (order xs ys)
+unfolding order turned
+order-turned [] [] = refl
+order-turned [] (y ∷ ys) = refl
+order-turned (x ∷ xs) [] = refl
+order-turned (x ∷ xs) (y ∷ ys) = go (side x y) (order-turned xs ys)
+  where
+    go : Side x y → order ys xs ≡ turned (order xs ys) → order (y ∷ ys) (x ∷ xs) ≡ turned (order (x ∷ xs) (y ∷ ys))
+    go (less h) m = after y x ys xs h ∙ ap turned (sym (before x y xs ys h))
+    go (more h) m = before y x ys xs h ∙ ap turned (sym (after x y xs ys h))
+    go (same h k) m = level y x ys xs k h ∙ m ∙ ap turned (sym (level x y xs ys h k))
+
+-- the order decides equality, and no value comes before itself
+pub order-equal : (xs ys : List ℕ) → order xs ys ≡ Same → xs ≡ ys
+unfolding order
+order-equal [] [] e = refl
+order-equal [] (y ∷ ys) e = absurd (let z : _≡_ {A = ℕ} 0 1 = cc in omega arith)
+order-equal (x ∷ xs) [] e = absurd (let z : _≡_ {A = ℕ} 0 1 = cc in omega arith)
+order-equal (x ∷ xs) (y ∷ ys) e = go (side x y) (order-equal xs ys)
+  where
+    go : Side x y → (order xs ys ≡ Same → xs ≡ ys) → x ∷ xs ≡ y ∷ ys
+    go (less h) m = absurd (let f = before x y xs ys h in let z : _≡_ {A = ℕ} 0 1 = cc in omega arith)
+    go (more h) m = absurd (let f = after x y xs ys h in let z : _≡_ {A = ℕ} 0 1 = cc in omega arith)
+    go (same h k) m =
+        let q : x ≡ y = omega arith in
+        let t : xs ≡ ys = m (sym (level x y xs ys h k) ∙ e) in
+        λ i. q i ∷ t i
+
+pub order-self : (xs : List ℕ) → order xs xs ≡ Same
+unfolding order
+order-self [] = refl
+order-self (x ∷ xs) = level x x xs xs (omega arith) (omega arith) ∙ order-self xs
+
+pub order-transitive : (xs ys zs : List ℕ) → order xs ys ≡ Before → order ys zs ≡ Before → order xs zs ≡ Before
+unfolding order
+order-transitive [] [] zs e f = f
+order-transitive [] (y ∷ ys) [] e f = absurd (let z : _≡_ {A = ℕ} 0 1 = cc in omega arith)
+order-transitive [] (y ∷ ys) (z ∷ zs) e f = refl
+order-transitive (x ∷ xs) [] zs e f = absurd (let z : _≡_ {A = ℕ} 0 1 = cc in omega arith)
+order-transitive (x ∷ xs) (y ∷ ys) [] e f = absurd (let z : _≡_ {A = ℕ} 0 1 = cc in omega arith)
+order-transitive (x ∷ xs) (y ∷ ys) (z ∷ zs) e f = go (side x y) (side y z) (order-transitive xs ys zs)
+  where
+    go : Side x y → Side y z → (order xs ys ≡ Before → order ys zs ≡ Before → order xs zs ≡ Before) → order (x ∷ xs) (z ∷ zs) ≡ Before
+    go (more h) s m = absurd (let g = after x y xs ys h in let n : _≡_ {A = ℕ} 0 1 = cc in omega arith)
+    go (less h) (more k) m = absurd (let g = after y z ys zs k in let n : _≡_ {A = ℕ} 0 1 = cc in omega arith)
+    go (same h l) (more k) m = absurd (let g = after y z ys zs k in let n : _≡_ {A = ℕ} 0 1 = cc in omega arith)
+    go (less h) (less k) m = before x z xs zs (omega arith)
+    go (less h) (same k l) m = before x z xs zs (omega arith)
+    go (same h l) (less k) m = before x z xs zs (omega arith)
+    go (same h l) (same k j) m =
+        level x z xs zs (omega arith) (omega arith) ∙ m (sym (level x y xs ys h l) ∙ e) (sym (level y z ys zs k j) ∙ f)
+
+-- from the front: what is left decides
+unfoldable pub Level : List ℕ → List ℕ → ℕ → Type 0
+Level xs ys i = order xs ys ≡ order (drop i xs) (drop i ys)
+
+pub level-none : (xs ys : List ℕ) → Level xs ys 0
+unfolding Level
+level-none xs ys = refl
+
+-- two values at places, of which i bytes of the s that both have are level
+module _ (rec : List ℕ) (p : Place) (other : List ℕ) (q : Place) (i s : ℕ) (w : Within rec p) (v : Within other q) (e : s ≡ min (p .width) (q .width)) where
+  -- x and y were read at i
+  module _ (x y : ℕ) (h : i < s) (ex : x ≡ getD (value rec p) i 0) (ey : y ≡ getD (value other q) i 0) where
+    nx : i < length (value rec p)
+    nx = omega (arith, value-length rec p w)
+
+    ny : i < length (value other q)
+    ny = omega (arith, value-length other q v)
+
+    pub level-before : x < y → Level (value rec p) (value other q) i → Before ≡ order (value rec p) (value other q)
+    unfolding Level
+    level-before k l =
+        let m = nx in
+        let n = ny in
+        sym (l ∙ rw (drop-cons (value rec p) i 0, drop-cons (value other q) i 0) (before _ _ _ _ (omega arith)))
+
+    pub level-after : y < x → Level (value rec p) (value other q) i → After ≡ order (value rec p) (value other q)
+    unfolding Level
+    level-after k l =
+        let m = nx in
+        let n = ny in
+        sym (l ∙ rw (drop-cons (value rec p) i 0, drop-cons (value other q) i 0) (after _ _ _ _ (omega arith)))
+
+    pub level-next : x ≤ y → y ≤ x → Level (value rec p) (value other q) i → Level (value rec p) (value other q) (i + 1)
+    unfolding Level
+    level-next k j l =
+        let m = nx in
+        let n = ny in
+        l ∙ rw (add-one, drop-cons (value rec p) i 0, drop-cons (value other q) i 0) (level _ _ _ _ (omega arith) (omega arith))
+
+  -- where one of them ends
+  module _ (a : i ≤ s) (b : s ≤ i) (l : Level (value rec p) (value other q) i) where
+    pub end-before : p .width < q .width → Before ≡ order (value rec p) (value other q)
+    unfolding Level order
+    end-before h =
+        let m : length (value rec p) ≤ i = omega (arith, value-length rec p w) in
+        let n : i < length (value other q) = omega (arith, value-length other q v) in
+        sym (l ∙ rw (drop-of-length-le (value rec p), drop-cons (value other q) i 0))
+
+    pub end-after : q .width < p .width → After ≡ order (value rec p) (value other q)
+    unfolding Level order
+    end-after h =
+        let m : i < length (value rec p) = omega (arith, value-length rec p w) in
+        let n : length (value other q) ≤ i = omega (arith, value-length other q v) in
+        sym (l ∙ rw (drop-of-length-le (value other q), drop-cons (value rec p) i 0))
+
+    pub end-same : q .width ≤ p .width → p .width ≤ q .width → Same ≡ order (value rec p) (value other q)
+    unfolding Level order
+    end-same h k =
+        let m : length (value rec p) ≤ i = omega (arith, value-length rec p w) in
+        let n : length (value other q) ≤ i = omega (arith, value-length other q v) in
+        sym (l ∙ rw (drop-of-length-le (value rec p), drop-of-length-le (value other q)))

@@ -1,0 +1,55 @@
+-- The routing prefix, range by range, and the routing number that begins with it.
+-- Assumes nothing.
+use mathlib.Core.Path.{_≡_, refl, sym, ap, _∙_}
+use mathlib.Core.Bool.{Bool, true, false}
+use mathlib.Core.List.{List}
+use Prim.Native.Nat.{ℕ, _≤_, _<_}
+use native.Mathlib.Omega.{arith}
+use borrow.Author.Tests.{lt-leb, le-leb, eq-eqb, ne-eqb}
+use Rattle.record.specs.Choice.{_and_, _or_}
+use Rattle.record.specs.Tests.{digits}
+use Rattle.record.specs.Numeral.{numeral}
+use Rattle.record.specs.Routing.{prefixListed, routing}
+use Rattle.record.proofs.Chain.{and-no, and-yes}
+use lib.ListN.{take}
+
+module _ (n : ℕ) where
+  pub in-first : n < 13 → true ≡ prefixListed n
+  unfolding prefixListed _and_ _or_
+  in-first h = rw (le-leb n 12 (omega arith))
+
+  pub in-second : 21 ≤ n → n < 33 → true ≡ prefixListed n
+  unfolding prefixListed _and_ _or_
+  in-second h k = simp (lt-leb n 12 (omega arith), le-leb 21 n h, le-leb n 32 (omega arith))
+
+  pub in-third : 61 ≤ n → n < 73 → true ≡ prefixListed n
+  unfolding prefixListed _and_ _or_
+  in-third h k = simp (lt-leb n 12 (omega arith), le-leb 21 n (omega arith), lt-leb n 32 (omega arith), le-leb 61 n h, le-leb n 72 (omega arith))
+
+  pub is-eighty : n ≡ 80 → true ≡ prefixListed n
+  unfolding prefixListed _and_ _or_
+  is-eighty e = rw e
+
+  pub gap-first : 13 ≤ n → n < 21 → false ≡ prefixListed n
+  unfolding prefixListed _and_ _or_
+  gap-first h k = simp (lt-leb n 12 (omega arith), lt-leb 21 n k, lt-leb 61 n (omega arith), ne-eqb n 80 (omega arith))
+
+  pub gap-second : 33 ≤ n → n < 61 → false ≡ prefixListed n
+  unfolding prefixListed _and_ _or_
+  gap-second h k = simp (lt-leb n 12 (omega arith), le-leb 21 n (omega arith), lt-leb n 32 (omega arith), lt-leb 61 n k, ne-eqb n 80 (omega arith))
+
+  pub gap-third : 73 ≤ n → (n ≡ 80 → ⊥) → false ≡ prefixListed n
+  unfolding prefixListed _and_ _or_
+  gap-third h k =
+      simp
+      (lt-leb n 12 (omega arith), le-leb 21 n (omega arith), lt-leb n 32 (omega arith), le-leb 61 n (omega arith), lt-leb n 72 (omega arith), ne-eqb n 80 k)
+
+-- a field of digits, of which the first two were read
+module _ (xs : List ℕ) (r : Bool) (n : ℕ) (e : r ≡ digits xs) where
+  pub routing-read : (t : Bool) → r ≡ true → n ≡ numeral (take 2 xs) → t ≡ prefixListed n → t ≡ routing xs
+  unfolding routing
+  routing-read t h k l = and-yes _ _ _ (sym e ∙ h) (l ∙ ap prefixListed k)
+
+  pub routing-not : r ≡ false → false ≡ routing xs
+  unfolding routing
+  routing-not h = and-no _ _ (sym e ∙ h)

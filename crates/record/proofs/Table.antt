@@ -1,0 +1,48 @@
+-- The layout: each record's fields tile its 850 positions, and the fillers are those that document 01 names.
+-- Assumes nothing.
+use mathlib.Core.Path.{_≡_, refl, sym, ap, _∙_}
+use mathlib.Core.Bool.{Bool, true, false}
+use mathlib.Core.List.{List, [], _∷_, _++_, map}
+use Prim.Native.Nat.{ℕ, zero, suc, _+_, _-_, _≤_, _<_}
+use native.Mathlib.Omega.{arith}
+use lib.Dec.{eqb}
+use borrow.Author.Tests.{eqb-true}
+use lib.ListN.{length, take, drop, length-drop, take-append-drop, drop-of-length-le}
+use lib.Seq.{drop-drop}
+use Rattle.record.specs.declared.Field.{Field}
+use Rattle.record.specs.Choice.{_and_, choose}
+use Rattle.record.specs.Value.{held}
+use Rattle.record.specs.Layout.{Record, Row, layout, records, rows, tiles, numbers, fillers}
+use Rattle.record.specs.Layout.Record.{FileHeader, BatchHeader, Detail, Party, Account, Procurement, BatchTrailer, FileTrailer}
+use Rattle.record.proofs.Chain.{and-left, and-right}
+
+pub tiled : (k : Record) → tiles 1 (layout k) ≡ true
+unfolding tiles layout _and_
+tiled FileHeader = refl
+tiled BatchHeader = refl
+tiled Detail = refl
+tiled Party = refl
+tiled Account = refl
+tiled Procurement = refl
+tiled BatchTrailer = refl
+tiled FileTrailer = refl
+
+-- n, n + 1, .., k numbers in all
+pub upFrom : ℕ → ℕ → List ℕ
+upFrom n zero = []
+upFrom n (suc k) = n ∷ upFrom (n + 1) k
+
+-- the fields are numbered 1 to 106
+pub numbered : numbers (rows records) ≡ upFrom 1 106
+unfolding numbers rows records layout upFrom
+numbered = refl
+
+-- document 01, Bytes
+pub fillers-are : fillers (rows records) ≡ 4 ∷ 11 ∷ 21 ∷ 63 ∷ 75 ∷ 89 ∷ 97 ∷ 101 ∷ 106 ∷ []
+unfolding fillers rows records layout choose
+fillers-are = refl
+
+-- what the fields hold, side by side
+glued : List ℕ → List Row → List ℕ
+glued rec [] = []
+glued rec (r ∷ rs) = held rec (r .place) ++ glued rec rs

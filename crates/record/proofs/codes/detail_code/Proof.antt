@@ -1,0 +1,85 @@
+use Rattle.record.specs.Codes.{codeBytes, letterByte}
+use Rattle.record.proofs.Chain.{told}
+use Rattle.record.proofs.CodeList.{code-here, code-next, code-none}
+use borrow.Author.Needs.{needs}
+use Rattle.record.proofs.codes.detail_code.Statement.{statement}
+use Rattle.record.proofs.codes.detail_code.Tie as tie
+
+slice-aggregate-field-is : tie.Need-slice-aggregate-field-is
+slice-aggregate-field-is c = search needs
+
+field-is-requires : tie.Need-field-is-requires
+field-is-requires c κs = search needs
+
+returns : tie.Need-returns
+unfolding codeBytes letterByte
+returns c = search (needs, code-here, code-next, code-none, told) depth 40
+
+slice-aggregate-field-is-2 : tie.Need-slice-aggregate-field-is-2
+slice-aggregate-field-is-2 c = search needs
+
+field-is-requires-2 : tie.Need-field-is-requires-2
+field-is-requires-2 c κs = search needs
+
+returns-2 : tie.Need-returns-2
+unfolding codeBytes letterByte
+returns-2 c = search (needs, code-here, code-next, code-none, told) depth 40
+
+slice-aggregate-field-is-3 : tie.Need-slice-aggregate-field-is-3
+slice-aggregate-field-is-3 c = search needs
+
+field-is-requires-3 : tie.Need-field-is-requires-3
+field-is-requires-3 c κs = search needs
+
+returns-3 : tie.Need-returns-3
+unfolding codeBytes letterByte
+returns-3 c = search (needs, code-here, code-next, code-none, told) depth 40
+
+slice-aggregate-field-is-4 : tie.Need-slice-aggregate-field-is-4
+slice-aggregate-field-is-4 c = search needs
+
+field-is-requires-4 : tie.Need-field-is-requires-4
+field-is-requires-4 c κs = search needs
+
+returns-4 : tie.Need-returns-4
+unfolding codeBytes letterByte
+returns-4 c = search (needs, code-here, code-next, code-none, told) depth 40
+
+slice-aggregate-field-is-5 : tie.Need-slice-aggregate-field-is-5
+slice-aggregate-field-is-5 c = search needs
+
+field-is-requires-5 : tie.Need-field-is-requires-5
+field-is-requires-5 c κs = search needs
+
+returns-5 : tie.Need-returns-5
+unfolding codeBytes letterByte
+returns-5 c = search (needs, code-here, code-next, code-none, told) depth 40
+
+batch-code-requires : tie.Need-batch-code-requires
+batch-code-requires c κs = search needs
+
+returns-6 : tie.Need-returns-6
+unfolding codeBytes letterByte
+returns-6 c = search (needs, code-here, code-next, code-none, told) depth 40
+
+pub detail-code-spec : {M : Type 1} → statement M
+detail-code-spec =
+    tie.close
+    (tie.spec
+    slice-aggregate-field-is
+    field-is-requires
+    returns
+    slice-aggregate-field-is-2
+    field-is-requires-2
+    returns-2
+    slice-aggregate-field-is-3
+    field-is-requires-3
+    returns-3
+    slice-aggregate-field-is-4
+    field-is-requires-4
+    returns-4
+    slice-aggregate-field-is-5
+    field-is-requires-5
+    returns-5
+    batch-code-requires
+    returns-6)

@@ -1,0 +1,15 @@
+use borrow.Author.Needs.{needs}
+use Rattle.record.proofs.field_zeros.Statement.{statement}
+use Rattle.record.proofs.field_zeros.Tie as tie
+
+locate-requires : tie.Need-locate-requires
+locate-requires c κs = search needs
+
+is-only-requires : tie.Need-is-only-requires
+is-only-requires c κs = search needs
+
+returns : tie.Need-returns
+returns c = cc
+
+pub field-zeros-spec : {M : Type 1} → statement M
+field-zeros-spec = tie.close (tie.spec locate-requires is-only-requires returns)

@@ -1,0 +1,25 @@
+use Rattle.record.proofs.Every.{digits-part}
+use Rattle.record.proofs.Prefix.{routing-read, routing-not}
+use borrow.Author.Needs.{needs}
+use Rattle.record.proofs.routing.field_routing.Statement.{statement}
+use Rattle.record.proofs.routing.field_routing.Tie as tie
+
+field-digits-requires : tie.Need-field-digits-requires
+field-digits-requires c κs = search needs
+
+part-number-requires : tie.Need-part-number-requires
+part-number-requires c κs = search (needs, digits-part)
+
+prefix-listed-requires : tie.Need-prefix-listed-requires
+prefix-listed-requires c κs = search needs
+
+returns : tie.Need-returns
+returns c = search (needs, routing-read)
+
+returns-2 : tie.Need-returns-2
+returns-2 c = search (needs, routing-not)
+
+pub field-routing-spec : {M : Type 1} → statement M
+field-routing-spec =
+    tie.close
+    (tie.spec field-digits-requires part-number-requires prefix-listed-requires returns returns-2)

@@ -1,0 +1,56 @@
+-- The record codes of 004 section 1.2, in EBCDIC (01 Bytes).
+use Prim.Native.Nat.{ℕ}
+use mathlib.Core.List.{List, [], _∷_}
+use Rattle.record.specs.declared.Field.{Field}
+use Rattle.record.specs.declared.codes.Letter.{Letter}
+use Rattle.record.specs.declared.codes.Letter.the-variants.{N, C, W, I, A}
+use Rattle.record.specs.declared.codes.Code.{Code}
+use Rattle.record.specs.declared.codes.Code.the-variants.{FileHeader, Batch, Detail, Party, Account, Procurement, BatchTrailer, FileTrailer, Unknown}
+use Rattle.record.specs.Choice.{choose}
+use Rattle.record.specs.Value.{held}
+use Rattle.record.specs.Tests.{alike}
+
+-- the letter of a kind of batch, and of its details
+unfoldable pub letterByte : Letter → ℕ
+letterByte N = 0xD5
+letterByte C = 0xC3
+letterByte W = 0xE6
+letterByte I = 0xC9
+letterByte A = 0xC1
+
+-- the two bytes of each code
+unfoldable pub codeBytes : Code → List ℕ
+codeBytes FileHeader = 0xC6 ∷ 0xC8 ∷ []
+codeBytes (Batch l) = 0xC2 ∷ letterByte l ∷ []
+codeBytes (Detail l) = 0xC4 ∷ letterByte l ∷ []
+codeBytes Party = 0xC4 ∷ 0xE7 ∷ []
+codeBytes Account = 0xC4 ∷ 0xE3 ∷ []
+codeBytes Procurement = 0xC4 ∷ 0xD7 ∷ []
+codeBytes BatchTrailer = 0xC2 ∷ 0xE3 ∷ []
+codeBytes FileTrailer = 0xC6 ∷ 0xE3 ∷ []
+codeBytes Unknown = []
+
+-- the sixteen codes, in the order in which the code asks for them: an order that cannot matter, since no two share their bytes
+abbrev pub frames : List Code
+frames = FileHeader ∷ BatchTrailer ∷ FileTrailer ∷ []
+
+abbrev pub batches : List Code
+batches = Batch N ∷ Batch C ∷ Batch W ∷ Batch I ∷ Batch A ∷ frames
+
+abbrev pub details : List Code
+details = Detail N ∷ Detail C ∷ Detail W ∷ Detail I ∷ Detail A ∷ batches
+
+abbrev pub codes : List Code
+codes = Party ∷ Account ∷ Procurement ∷ details
+
+-- the code among these whose two bytes these are
+unfoldable pub codeIn : List Code → List ℕ → Code
+codeIn [] xs = Unknown
+codeIn (c ∷ cs) xs = choose (alike xs (codeBytes c)) c (codeIn cs xs)
+
+-- the first two bytes of a record (01 Bytes; 004 fields 1, 5, 22, 64, 76, 90, 98, 102)
+abbrev pub recordCode : Field
+recordCode = record { start = 1; width = 2 }
+
+unfoldable pub codeOf : List ℕ → Code
+codeOf rec = codeIn codes (held rec recordCode)

@@ -1,0 +1,9 @@
+pub mod Choice
+pub mod Layout
+pub mod Value
+pub mod Tests
+pub mod Numeral
+pub mod Ordering
+pub mod Place
+pub mod Codes
+pub mod Routing

@@ -1,0 +1,18 @@
+-- What a field of a record holds, in the documents' own terms. Nothing here speaks of how it is found.
+use Prim.Native.Nat.{ℕ, _+_, _-_, _≤_}
+use mathlib.Core.List.{List}
+use lib.ListN.{length, take, drop}
+use Rattle.record.specs.declared.Field.{Field}
+use Rattle.record.specs.declared.Line.{Line}
+
+-- the record's bytes as the rules see them (01 Bytes): in the base, the bytes that were sent
+unfoldable pub seen : Line → List ℕ → List ℕ
+seen line rec = rec
+
+-- the record is long enough for the field; positions count from 1 (01 Bytes)
+abbrev pub Has : List ℕ → Field → Type 0
+Has rec f = (1 ≤ f .start) × (f .start + f .width ≤ length rec + 1)
+
+-- the field's bytes, over its full width (01 Bytes)
+unfoldable pub held : List ℕ → Field → List ℕ
+held rec f = take (f .width) (drop (f .start - 1) rec)

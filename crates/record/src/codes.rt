@@ -1,0 +1,110 @@
+// Record codes (004 section 1.2), compared with their fixed EBCDIC bytes.
+use crate::Line;
+use crate::layout::RECORD_CODE;
+ghost use mathlib.Core.Path.{_≡_};
+ghost use Prim.Native.Nat.{_≤_};
+ghost use lib.ListN.{length};
+ghost use Rattle.record.specs.Value.{seen, held};
+ghost use Rattle.record.specs.Codes.{codeOf, codeIn, recordCode, details, batches, frames};
+
+// The kind of a batch and of its details.
+pub enum Letter {
+    N,
+    C,
+    W,
+    I,
+    A,
+}
+
+// What a record's first two bytes say it is.
+pub enum Code {
+    FileHeader,
+    Batch(Letter),
+    Detail(Letter),
+    Party,
+    Account,
+    Procurement,
+    BatchTrailer,
+    FileTrailer,
+    Unknown,
+}
+
+// The code of a record that frames the file or ends a batch.
+fn frame_code(rec: &[u8], line: Line) -> Code
+    requires { ⌜ 2 ≤ length (now rec) ⌝ }
+    ensures { λ r. ⌜ r ≡ codeIn frames (held (seen line (now (rec .entry))) recordCode) ⌝ }
+{
+    if crate::field_is(rec, line, RECORD_CODE, b"\xC6\xC8") {
+        return Code::FileHeader;
+    }
+    if crate::field_is(rec, line, RECORD_CODE, b"\xC2\xE3") {
+        return Code::BatchTrailer;
+    }
+    if crate::field_is(rec, line, RECORD_CODE, b"\xC6\xE3") {
+        return Code::FileTrailer;
+    }
+    Code::Unknown
+}
+
+// The code of a batch header, or of a record that the function above names.
+fn batch_code(rec: &[u8], line: Line) -> Code
+    requires { ⌜ 2 ≤ length (now rec) ⌝ }
+    ensures { λ r. ⌜ r ≡ codeIn batches (held (seen line (now (rec .entry))) recordCode) ⌝ }
+{
+    if crate::field_is(rec, line, RECORD_CODE, b"\xC2\xD5") {
+        return Code::Batch(Letter::N);
+    }
+    if crate::field_is(rec, line, RECORD_CODE, b"\xC2\xC3") {
+        return Code::Batch(Letter::C);
+    }
+    if crate::field_is(rec, line, RECORD_CODE, b"\xC2\xE6") {
+        return Code::Batch(Letter::W);
+    }
+    if crate::field_is(rec, line, RECORD_CODE, b"\xC2\xC9") {
+        return Code::Batch(Letter::I);
+    }
+    if crate::field_is(rec, line, RECORD_CODE, b"\xC2\xC1") {
+        return Code::Batch(Letter::A);
+    }
+    frame_code(rec, line)
+}
+
+// The code of a detail, or of a record that the function above names.
+fn detail_code(rec: &[u8], line: Line) -> Code
+    requires { ⌜ 2 ≤ length (now rec) ⌝ }
+    ensures { λ r. ⌜ r ≡ codeIn details (held (seen line (now (rec .entry))) recordCode) ⌝ }
+{
+    if crate::field_is(rec, line, RECORD_CODE, b"\xC4\xD5") {
+        return Code::Detail(Letter::N);
+    }
+    if crate::field_is(rec, line, RECORD_CODE, b"\xC4\xC3") {
+        return Code::Detail(Letter::C);
+    }
+    if crate::field_is(rec, line, RECORD_CODE, b"\xC4\xE6") {
+        return Code::Detail(Letter::W);
+    }
+    if crate::field_is(rec, line, RECORD_CODE, b"\xC4\xC9") {
+        return Code::Detail(Letter::I);
+    }
+    if crate::field_is(rec, line, RECORD_CODE, b"\xC4\xC1") {
+        return Code::Detail(Letter::A);
+    }
+    batch_code(rec, line)
+}
+
+// The code of a record: one of the sixteen of 004, or `Unknown`.
+pub fn code_of(rec: &[u8], line: Line) -> Code
+    requires { ⌜ 2 ≤ length (now rec) ⌝ }
+    ensures { λ r. ⌜ r ≡ codeOf (seen line (now (rec .entry))) ⌝ }
+{
+    if crate::field_is(rec, line, RECORD_CODE, b"\xC4\xE7") {
+        return Code::Party;
+    }
+    if crate::field_is(rec, line, RECORD_CODE, b"\xC4\xE3") {
+        return Code::Account;
+    }
+    if crate::field_is(rec, line, RECORD_CODE, b"\xC4\xD7") {
+        return Code::Procurement;
+    }
+    detail_code(rec, line)
+}
