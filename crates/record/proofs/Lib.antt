@@ -1,4 +1,5 @@
 pub mod Chain
+pub mod Held
 pub mod Every
 pub mod Same
 pub mod Numbers

@@ -1,0 +1,3 @@
+mod Days
+mod Dates
+pub mod Examples

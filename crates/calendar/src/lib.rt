@@ -1,0 +1,109 @@
+// Dates in fields, by the Gregorian calendar (document 01, Date).
+use record::Field;
+use record::Line;
+ghost use mathlib.Core.Path.{_≡_};
+ghost use Rattle.record.specs.Value.{Has, seen, held};
+ghost use Rattle.calendar.specs.Calendar.{leap, daysIn, realDay, dashes, dashedDate, plainDate, monthYear};
+
+fn is_leap(year: u64) -> bool
+    ensures { λ r. ⌜ r ≡ leap year ⌝ }
+{
+    if year % 4 != 0 {
+        return false;
+    }
+    if year % 100 != 0 {
+        return true;
+    }
+    year % 400 == 0
+}
+
+// The days of a month, counted from 1.
+fn days_in(year: u64, month: u64) -> u64
+    ensures { λ r. ⌜ r ≡ daysIn year month ⌝ }
+{
+    match month {
+        1 | 3 | 5 | 7 | 8 | 10 | 12 => 31,
+        4 | 6 | 9 | 11 => 30,
+        2 => { if is_leap(year) { 29 } else { 28 } }
+        _ => 0,
+    }
+}
+
+// There is such a day in the years 0001 to 9999.
+fn is_real_day(year: u64, month: u64, day: u64) -> bool
+    ensures { λ r. ⌜ r ≡ realDay year month day ⌝ }
+{
+    if year < 1 {
+        return false;
+    }
+    if 9999 < year {
+        return false;
+    }
+    if day < 1 {
+        return false;
+    }
+    day <= days_in(year, month)
+}
+
+// The field has the shape CCYY-MM-DD.
+fn has_dashes(rec: &[u8], line: Line, field: Field) -> bool
+    requires { ⌜ Has (now rec) field × (field .width ≡ 10) ⌝ }
+    ensures { λ r. ⌜ r ≡ dashes (held (seen line (now (rec .entry))) field) ⌝ }
+{
+    if !record::part_digits(rec, line, field, 0, 4) {
+        return false;
+    }
+    if record::part_byte(rec, line, field, 4) != 0x60 {
+        return false;
+    }
+    if !record::part_digits(rec, line, field, 5, 7) {
+        return false;
+    }
+    if record::part_byte(rec, line, field, 7) != 0x60 {
+        return false;
+    }
+    record::part_digits(rec, line, field, 8, 10)
+}
+
+// The field is a date CCYY-MM-DD.
+pub fn date_ccyy_mm_dd(rec: &[u8], line: Line, field: Field) -> bool
+    requires { ⌜ Has (now rec) field × (field .width ≡ 10) ⌝ }
+    ensures { λ r. ⌜ r ≡ dashedDate (held (seen line (now (rec .entry))) field) ⌝ }
+{
+    if has_dashes(rec, line, field) {
+        let year = record::part_number(rec, line, field, 0, 4);
+        let month = record::part_number(rec, line, field, 5, 7);
+        let day = record::part_number(rec, line, field, 8, 10);
+        return is_real_day(year, month, day);
+    }
+    false
+}
+
+// The field is a date YYYYMMDD.
+pub fn date_yyyymmdd(rec: &[u8], line: Line, field: Field) -> bool
+    requires { ⌜ Has (now rec) field × (field .width ≡ 8) ⌝ }
+    ensures { λ r. ⌜ r ≡ plainDate (held (seen line (now (rec .entry))) field) ⌝ }
+{
+    if record::field_digits(rec, line, field) {
+        let year = record::part_number(rec, line, field, 0, 4);
+        let month = record::part_number(rec, line, field, 4, 6);
+        let day = record::part_number(rec, line, field, 6, 8);
+        return is_real_day(year, month, day);
+    }
+    false
+}
+
+// The field is a month and a year, MMYY, and the month is 01 to 12.
+pub fn month_mmyy(rec: &[u8], line: Line, field: Field) -> bool
+    requires { ⌜ Has (now rec) field × (field .width ≡ 4) ⌝ }
+    ensures { λ r. ⌜ r ≡ monthYear (held (seen line (now (rec .entry))) field) ⌝ }
+{
+    if record::field_digits(rec, line, field) {
+        let month = record::part_number(rec, line, field, 0, 2);
+        if month < 1 {
+            return false;
+        }
+        return month <= 12;
+    }
+    false
+}

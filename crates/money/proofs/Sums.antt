@@ -1,0 +1,48 @@
+-- The sum of a list: adding one amount after another gives exactly the amount of the sum, and up to 65,535 amounts of twenty digits never wrap.
+-- Assumes nothing.
+use mathlib.Core.Path.{_≡_, refl, sym, ap, _∙_}
+use mathlib.Core.List.{List, [], _∷_, _++_}
+use Prim.Native.Nat.{ℕ, _+_, _*_, _≤_, _<_}
+use native.Mathlib.Nat.{add-assoc}
+use native.Mathlib.Omega.{arith}
+use lib.ListN.{length}
+use Rattle.money.specs.declared.Amount.{Amount}
+use Rattle.money.specs.Money.{worth, split, total, Whole, Fit, limit}
+use Rattle.money.proofs.Amounts.{worth-split, split-whole}
+
+-- amounts added one after another, as `plus` promises each step
+pub added : Amount → List ℕ → Amount
+added a [] = a
+added a (x ∷ xs) = added (split (worth a + x)) xs
+
+pub added-total : (xs : List ℕ) (n : ℕ) → added (split n) xs ≡ split (n + total xs)
+unfolding added total
+added-total [] n = ap split (omega arith)
+added-total (x ∷ xs) n =
+    added-total xs (worth (split n) + x) ∙ ap split (rw worth-split (add-assoc n x (total xs)))
+
+-- one amount more at the end
+pub total-snoc : (xs : List ℕ) (x : ℕ) → total (xs ++ x ∷ []) ≡ total xs + x
+unfolding total
+total-snoc [] x = omega arith
+total-snoc (y ∷ xs) x = rw (total-snoc xs x) (omega arith)
+
+-- every number of the list has at most twenty digits
+pub Below : List ℕ → Type 0
+Below [] = Unit {0}
+Below (x ∷ xs) = (x < 100000000000000000000) × Below xs
+
+pub total-room : (xs : List ℕ) → Below xs → total xs ≤ 100000000000000000000 * length xs
+unfolding total Below
+total-room [] b = omega arith
+total-room (x ∷ xs) b = omega (arith, b .0, total-room xs (b .1))
+
+-- nothing wraps: the sum of fewer than 65,535 amounts takes one more
+pub fits : (xs : List ℕ) (x : ℕ) → Below xs → x < 100000000000000000000 → length xs < 65535 → Fit (split (total xs)) (split x)
+fits xs x b h n =
+    record { left = split-whole (total xs); right = split-whole x; room = rw (worth-split, worth-split) (omega (arith, total-room xs b)) }
+
+-- document 01, worked examples: twenty nines plus 1
+pub carried : added (split 99999999999999999999) (1 ∷ []) ≡ record { high = 10000000000; low = 0 }
+unfolding added split worth
+carried = refl
