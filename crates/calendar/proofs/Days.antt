@@ -3,15 +3,13 @@
 use mathlib.Core.Path.{_≡_, refl, sym, ap, _∙_}
 use mathlib.Core.Bool.{Bool, true, false, not}
 use mathlib.Core.List.{List, [], _∷_}
-use mathlib.Core.Logic.{_⊎_, inl, inr, ⊎-elim}
+use mathlib.Core.Logic.{_⊎_, inl, inr}
 use Prim.Native.Nat.{ℕ, zero, suc, _%_, _≤_, _<_}
 use native.Mathlib.Omega.{arith}
-use lib.Dec.{eqb}
-use borrow.Author.Tests.{eq-eqb, ne-eqb, eqb-true}
-use lib.ListN.{getD}
+use lib.Dec.{eqb, leb}
+use borrow.Author.Tests.{eq-eqb, ne-eqb}
+use lib.ListN.{getD, List·getD-eq-default}
 use Rattle.record.specs.Choice.{_and_, _or_, choose}
-use Rattle.record.specs.Tests.{every}
-use Rattle.record.proofs.Chain.{and-left, and-right}
 use Rattle.calendar.specs.Calendar.{leap, lengths, daysIn}
 
 module _ (y : ℕ) where
@@ -27,17 +25,51 @@ module _ (y : ℕ) where
   unfolding leap _and_ _or_
   century h k = rw (eq-eqb (y % 4) 0 h, eq-eqb (y % 100) 0 k)
 
--- m is one of the numbers
-abbrev pub OneOf : ℕ → ℕ → List ℕ → Type 0
-OneOf m k [] = m ≡ k
-OneOf m k (n ∷ ns) = (m ≡ k) ⊎ OneOf m n ns
+module _ (y m : ℕ) where
+  module _ (r : Bool) (e : r ≡ leap y) (h : m ≡ 2) where
+    pub february-leap : r ≡ true → 29 ≡ daysIn y m
+    unfolding daysIn lengths choose
+    february-leap t = rw (h, sym e ∙ t)
 
--- a month of a list whose months all have d days
-pub in-list : (b : Bool) (d k : ℕ) (ks : List ℕ) (m : ℕ) → every (λ (n : ℕ). eqb d (getD (0 ∷ lengths b) n 0)) (k ∷ ks) ≡ true → OneOf m k ks → d ≡ getD (0 ∷ lengths b) m 0
-unfolding every
-in-list b d k [] m e o = eqb-true d (getD (0 ∷ lengths b) k 0) (and-left _ _ e) ∙ ap (λ (n : ℕ). getD (0 ∷ lengths b) n 0) (sym o)
-in-list b d k (n ∷ ns) m e o =
-    ⊎-elim
-    (λ (q : m ≡ k). in-list b d k [] m ? q)
-    (λ (q : OneOf m n ns). in-list b d n ns m (and-right (eqb d (getD (0 ∷ lengths b) k 0)) (every (λ (n : ℕ). eqb d (getD (0 ∷ lengths b) n 0)) (n ∷ ns)) e) q)
-    o
+    pub february : r ≡ false → 28 ≡ daysIn y m
+    unfolding daysIn lengths choose
+    february t = rw (h, sym e ∙ t)
+
+  pub no-month-below : m < 1 → 0 ≡ daysIn y m
+  unfolding daysIn
+  no-month-below h =
+      let z : m ≡ 0 = omega arith in
+      rw z
+
+  pub no-month-above : 12 < m → 0 ≡ daysIn y m
+  unfolding daysIn lengths
+  no-month-above h = sym (List·getD-eq-default (0 ∷ lengths (leap y)) 0 h)
+
+  pub thirty : (m ≡ 4) ⊎ ((m ≡ 6) ⊎ ((m ≡ 9) ⊎ (m ≡ 11))) → 30 ≡ daysIn y m
+  unfolding daysIn lengths
+  thirty (inl e) = rw e
+  thirty (inr (inl e)) = rw e
+  thirty (inr (inr (inl e))) = rw e
+  thirty (inr (inr (inr e))) = rw e
+
+-- every other month
+pub thirty-one : (y m : ℕ) → 1 ≤ m → m ≤ 12 → ((m ≡ 4) ⊎ ((m ≡ 6) ⊎ ((m ≡ 9) ⊎ (m ≡ 11))) → ⊥) → (m ≡ 2 → ⊥) → 31 ≡ daysIn y m
+unfolding daysIn lengths
+thirty-one y zero h k b c = absurd (omega (arith, h))
+thirty-one y (suc zero) h k b c = refl
+thirty-one y (suc (suc zero)) h k b c = absurd (c refl)
+thirty-one y (suc (suc (suc zero))) h k b c = refl
+thirty-one y (suc (suc (suc (suc zero)))) h k b c = absurd (b (inl refl))
+thirty-one y (suc (suc (suc (suc (suc zero))))) h k b c = refl
+thirty-one y (suc (suc (suc (suc (suc (suc zero)))))) h k b c = absurd (b (inr (inl refl)))
+thirty-one y (suc (suc (suc (suc (suc (suc (suc zero))))))) h k b c = refl
+thirty-one y (suc (suc (suc (suc (suc (suc (suc (suc zero)))))))) h k b c = refl
+thirty-one y (suc (suc (suc (suc (suc (suc (suc (suc (suc zero))))))))) h k b c = absurd (b (inr (inr (inl refl))))
+thirty-one y (suc (suc (suc (suc (suc (suc (suc (suc (suc (suc zero)))))))))) h k b c = refl
+thirty-one y (suc (suc (suc (suc (suc (suc (suc (suc (suc (suc (suc zero))))))))))) h k b c = absurd (b (inr (inr (inr refl))))
+thirty-one y (suc (suc (suc (suc (suc (suc (suc (suc (suc (suc (suc (suc zero)))))))))))) h k b c = refl
+thirty-one y (suc (suc (suc (suc (suc (suc (suc (suc (suc (suc (suc (suc (suc m))))))))))))) h k b c = absurd (omega (arith, k))
+
+-- the days that were asked for
+pub day-is : (y m d n : ℕ) → n ≡ daysIn y m → leb d n ≡ leb d (daysIn y m)
+day-is y m d n e = ap (leb d) e

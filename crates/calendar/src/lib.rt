@@ -21,11 +21,16 @@ fn is_leap(year: u64) -> bool
 fn days_in(year: u64, month: u64) -> u64
     ensures { λ r. ⌜ r ≡ daysIn year month ⌝ }
 {
+    if month < 1 {
+        return 0;
+    }
+    if 12 < month {
+        return 0;
+    }
     match month {
-        1 | 3 | 5 | 7 | 8 | 10 | 12 => 31,
-        4 | 6 | 9 | 11 => 30,
         2 => { if is_leap(year) { 29 } else { 28 } }
-        _ => 0,
+        4 | 6 | 9 | 11 => 30,
+        _ => 31,
     }
 }
 

@@ -1,8 +1,10 @@
 -- A chain of tests, as a search goes down it: each law applies where its test is known.
 -- Assumes nothing.
 use mathlib.Core.Path.{_≡_, refl, sym, _∙_}
-use mathlib.Core.Bool.{Bool, true, false, true≢false}
-use borrow.Author.Tests.{lt-leb, le-leb, lt-ltb, le-ltb, eq-eqb, ne-eqb}
+use mathlib.Core.Bool.{Bool, true, false, not, true≢false}
+use Prim.Native.Nat.{ℕ}
+use lib.Dec.{eqb}
+use borrow.Author.Tests.{not-true, not-false, lt-leb, le-leb, lt-ltb, le-ltb, eq-eqb, ne-eqb}
 use Rattle.record.specs.Choice.{_and_, _or_, choose}
 
 pub and-no : (a b : Bool) → a ≡ false → false ≡ (a and b)
@@ -49,6 +51,21 @@ and-false false = refl
 pub told : {A : Type 0} (r x b : A) → r ≡ x → r ≡ b → x ≡ b
 told r x b e t = sym e ∙ t
 
+-- the same of a test that was turned round, and of a byte that was compared
+pub told-not : (r x : Bool) → r ≡ x → not r ≡ true → x ≡ false
+told-not r x e t = sym e ∙ not-true r t
+
+pub told-yes : (r x : Bool) → r ≡ x → not r ≡ false → x ≡ true
+told-yes r x e t = sym e ∙ not-false r t
+
+pub read-is : (x y k : ℕ) → x ≡ y → x ≡ k → eqb y k ≡ true
+read-is x y k e h = eq-eqb y k (sym e ∙ h)
+
+pub read-not : (x y k : ℕ) → x ≡ y → (x ≡ k → ⊥) → eqb y k ≡ false
+read-not x y k e h = ne-eqb y k (λ q. h (e ∙ q))
+
 pub ruleset tests = (lt-leb, le-leb, lt-ltb, le-ltb, eq-eqb, ne-eqb)
+
+pub ruleset reads = (told, told-not, told-yes, read-is, read-not)
 
 pub ruleset chain = (and-no, and-yes, or-yes, or-no, choose-yes, choose-no, tests)

@@ -1,0 +1,37 @@
+use Rattle.calendar.proofs.Dates.{year-digits, month-digits, day-digits, dashed-read, dashed-not}
+use borrow.Author.Needs.{needs}
+use Rattle.calendar.proofs.date_ccyy_mm_dd.Statement.{statement}
+use Rattle.calendar.proofs.date_ccyy_mm_dd.Tie as tie
+
+has-dashes-requires : tie.Need-has-dashes-requires
+has-dashes-requires c κs = search needs
+
+part-number-requires : tie.Need-part-number-requires
+part-number-requires c κs = search (needs, year-digits)
+
+part-number-requires-2 : tie.Need-part-number-requires-2
+part-number-requires-2 c κs = search (needs, month-digits)
+
+part-number-requires-3 : tie.Need-part-number-requires-3
+part-number-requires-3 c κs = search (needs, day-digits)
+
+is-real-day-requires : tie.Need-is-real-day-requires
+is-real-day-requires c κs = search needs
+
+returns : tie.Need-returns
+returns c = search (needs, dashed-read)
+
+returns-2 : tie.Need-returns-2
+returns-2 c = search (needs, dashed-not)
+
+pub date-ccyy-mm-dd-spec : {M : Type 1} → statement M
+date-ccyy-mm-dd-spec =
+    tie.close
+    (tie.spec
+    has-dashes-requires
+    part-number-requires
+    part-number-requires-2
+    part-number-requires-3
+    is-real-day-requires
+    returns
+    returns-2)
