@@ -1,3 +1,4 @@
 mod Days
 mod Dates
 pub mod Examples
+mod Unique

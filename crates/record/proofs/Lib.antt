@@ -7,3 +7,4 @@ pub mod Orders
 pub mod Table
 pub mod CodeList
 mod Prefix
+pub mod Unique

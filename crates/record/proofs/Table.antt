@@ -43,6 +43,22 @@ unfolding fillers rows records layout choose
 fillers-are = refl
 
 -- what the fields hold, side by side
-glued : List ℕ → List Row → List ℕ
+pub glued : List ℕ → List Row → List ℕ
 glued rec [] = []
 glued rec (r ∷ rs) = held rec (r .place) ++ glued rec rs
+
+glued-from : (rec : List ℕ) (rs : List Row) (at : ℕ) → length rec ≡ 850 → 1 ≤ at → tiles at rs ≡ true → glued rec rs ≡ drop (at - 1) rec
+unfolding tiles glued held
+glued-from rec [] at n h e =
+    let k : at ≡ 851 = eqb-true at 851 e in
+    let j : length rec ≤ at - 1 = omega arith in
+    sym (drop-of-length-le rec j)
+glued-from rec (r ∷ rs) at n h e =
+    let k : r .place .start ≡ at = eqb-true (r .place .start) at (and-left _ _ e) in
+    let m : at + r .place .width - 1 ≡ at - 1 + r .place .width = omega arith in
+    let t = glued-from rec rs (at + r .place .width) n (omega arith) (and-right (eqb (r .place .start) at) _ e) in
+    rw (k, t, m, ← drop-drop (r .place .width) (at - 1) rec) (take-append-drop (r .place .width) (drop (at - 1) rec))
+
+-- a record of 850 bytes is what its fields hold, side by side: no byte is in no field, and none in two
+pub glued-is : (k : Record) (rec : List ℕ) → length rec ≡ 850 → glued rec (layout k) ≡ rec
+glued-is k rec n = glued-from rec (layout k) 1 n (omega arith) (tiled k)

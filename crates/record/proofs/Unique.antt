@@ -1,0 +1,59 @@
+-- Each public function's contract allows one result for the same arguments: stated over the contract itself.
+-- Assumes nothing.
+use mathlib.Core.Path.{_≡_, sym, _∙_}
+use Rattle.record.proofs.field_blank.Reads as field-blank
+use Rattle.record.proofs.field_zeros.Reads as field-zeros
+use Rattle.record.proofs.field_valid.Reads as field-valid
+use Rattle.record.proofs.field_is.Reads as field-is
+use Rattle.record.proofs.field_digits.Reads as field-digits
+use Rattle.record.proofs.field_number.Reads as field-number
+use Rattle.record.proofs.part_byte.Reads as part-byte
+use Rattle.record.proofs.part_digits.Reads as part-digits
+use Rattle.record.proofs.part_number.Reads as part-number
+use Rattle.record.proofs.fields_same.Reads as fields-same
+use Rattle.record.proofs.fields_order.Reads as fields-order
+use Rattle.record.proofs.codes.code_of.Reads as code-of
+use Rattle.record.proofs.routing.field_routing.Reads as field-routing
+
+-- any two results that a contract allows for the same arguments are equal
+abbrev pub OneResult : {K : Type 0} {A R X : K → Type 0} → ((κs : K) → A κs → R κs → X κs → Type 0) → Type 0
+OneResult {K} {A} {R} {X} Q = (κs : K) (a : A κs) (r s : R κs) (x y : X κs) → Q κs a r x → Q κs a s y → r ≡ s
+
+pub field-blank-unique : OneResult field-blank.Post
+field-blank-unique κs a r s x y p q = p ∙ sym q
+
+pub field-zeros-unique : OneResult field-zeros.Post
+field-zeros-unique κs a r s x y p q = p ∙ sym q
+
+pub field-valid-unique : OneResult field-valid.Post
+field-valid-unique κs a r s x y p q = p ∙ sym q
+
+pub field-is-unique : OneResult field-is.Post
+field-is-unique κs a r s x y p q = p ∙ sym q
+
+pub field-digits-unique : OneResult field-digits.Post
+field-digits-unique κs a r s x y p q = p ∙ sym q
+
+pub field-number-unique : OneResult field-number.Post
+field-number-unique κs a r s x y p q = p ∙ sym q
+
+pub part-byte-unique : OneResult part-byte.Post
+part-byte-unique κs a r s x y p q = p ∙ sym q
+
+pub part-digits-unique : OneResult part-digits.Post
+part-digits-unique κs a r s x y p q = p ∙ sym q
+
+pub part-number-unique : OneResult part-number.Post
+part-number-unique κs a r s x y p q = p ∙ sym q
+
+pub fields-same-unique : OneResult fields-same.Post
+fields-same-unique κs a r s x y p q = p ∙ sym q
+
+pub fields-order-unique : OneResult fields-order.Post
+fields-order-unique κs a r s x y p q = p ∙ sym q
+
+pub code-of-unique : OneResult code-of.Post
+code-of-unique κs a r s x y p q = p ∙ sym q
+
+pub field-routing-unique : OneResult field-routing.Post
+field-routing-unique κs a r s x y p q = p ∙ sym q
