@@ -1,0 +1,63 @@
+#!/usr/bin/env python3
+"""Writes stdin and stdout of this program: records in EBCDIC by Python's own code page 037, and what documents 01 and 004 say of them."""
+import datetime
+import pathlib
+
+here = pathlib.Path(__file__).parent
+CODES = "FH BN BC BW BI BA DN DC DW DI DA DX DT DP BT FT".split()
+
+
+def real(year, month, day):
+    try:
+        datetime.date(int(year), int(month), int(day))
+        return True
+    except ValueError:
+        return False
+
+
+def is_digits(text):
+    return all(c in "0123456789" for c in text)
+
+
+def record(code="BN", schedule="A", date="2024-02-29", amount="0" * 20, routing="000000000", created="20240229", month="0124", original="A", raw=None):
+    """The bytes of one record, and the line that the program must print."""
+    text = [" "] * 850
+    fields = [(1, 2, code), (3, 14, schedule), (23, 10, date), (33, 20, amount), (60, 9, routing), (91, 8, created), (111, 4, month), (560, 14, original)]
+    for start, width, value in fields:
+        assert len(value) <= width
+        text[start - 1:start - 1 + width] = value.ljust(width)
+    data = bytearray("".join(text).encode("cp037"))
+    for position, byte in (raw or {}).items():
+        data[position - 1] = byte
+    y, m, d = date[0:4], date[5:7], date[8:10]
+    cents = int(amount) if len(amount) == 20 and is_digits(amount) else 0
+    a, b = (value.ljust(14).encode("cp037") for value in (schedule, original))
+    prefix = int(routing[:2]) if is_digits(routing) and len(routing) == 9 else -1
+    says = [
+        CODES.index(code) + 1 if code in CODES else 0,
+        all(byte >= 0x40 for byte in data[0:56]),
+        len(date) == 10 and date[4] + date[7] == "--" and is_digits(y + m + d) and real(y, m, d),
+        len(created) == 8 and is_digits(created) and real(created[0:4], created[4:6], created[6:8]),
+        len(month) == 4 and is_digits(month) and 1 <= int(month[0:2]) <= 12,
+        0 <= prefix <= 12 or 21 <= prefix <= 32 or 61 <= prefix <= 72 or prefix == 80,
+        cents // 10**10,
+        cents % 10**10,
+        (a > b) - (a < b) + 1,
+    ]
+    return bytes(data), " ".join(str(int(x)) for x in says) + " \n"
+
+
+vectors = [record(code=c) for c in CODES + ["fh", "XX", "B ", "DB"]]
+for day in "2000-02-29 1900-02-29 2023-02-29 0001-01-01 0000-01-01 9999-12-31 2024-04-31 2024-12-31 2024-13-01 2024-00-10 2024-01-00 2024/01/01 20240101--".split():
+    vectors.append(record(date=day, created=day.replace("-", "").ljust(8)[:8]))
+vectors += [record(created="2024022"), record(created="2024O229"), record(date="2024-02-2 ")]
+vectors += [record(month=m) for m in "0124 1299 1300 0001 1 24 12A0".replace("1 24", "1-24").split()]
+vectors += [record(routing="%02d1234567" % p) for p in range(100)]
+vectors += [record(routing=r) for r in ["000000000", "01234567", "0123456X8", " 12345678"]]
+vectors += [record(amount=a) for a in ["9" * 20, "1" + "0" * 19, "0" * 9 + "12345678901", "0" * 15 + "12345", "12345", "0" * 19 + "A"]]
+order = ["A", "a", "1", "AB", "A1", "Aa", "Z", "9", "0", "-"]
+vectors += [record(schedule=x, original=y) for x in order for y in order]
+vectors += [record(raw={56: 0x3F}), record(raw={57: 0x3F}), record(raw={17: 0x00}), record(raw={56: 0x40}), record(raw={30: 0xFF})]
+
+(here / "stdin").write_bytes(b"".join(data for data, _ in vectors))
+(here / "stdout").write_text("".join(line for _, line in vectors))

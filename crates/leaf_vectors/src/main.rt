@@ -1,0 +1,113 @@
+// Shows what the leaves say of records that another program encoded in EBCDIC: a line for each record on standard input.
+use record::Field;
+use record::Line;
+use record::Order;
+use record::codes::Code;
+use record::codes::Letter;
+use record::layout;
+
+// The place of a code in the list of 004 section 1.2, from 1; 0 for no code.
+fn code_number(code: Code) -> u64 {
+    match code {
+        Code::FileHeader => 1,
+        Code::Batch(letter) => match letter {
+            Letter::N => 2,
+            Letter::C => 3,
+            Letter::W => 4,
+            Letter::I => 5,
+            Letter::A => 6,
+        },
+        Code::Detail(letter) => match letter {
+            Letter::N => 7,
+            Letter::C => 8,
+            Letter::W => 9,
+            Letter::I => 10,
+            Letter::A => 11,
+        },
+        Code::Party => 12,
+        Code::Account => 13,
+        Code::Procurement => 14,
+        Code::BatchTrailer => 15,
+        Code::FileTrailer => 16,
+        Code::Unknown => 0,
+    }
+}
+
+fn show(n: u64) {
+    io::print_decimal(1, n);
+    io::write_all(1, b" ");
+}
+
+fn show_bool(b: bool) {
+    if b {
+        show(1);
+    } else {
+        show(0);
+    }
+}
+
+fn show_order(order: Order) {
+    match order {
+        Order::Before => show(0),
+        Order::Same => show(1),
+        Order::After => show(2),
+    }
+}
+
+// The record's code, and whether no byte of positions 1 to 56 is below hex 40.
+fn show_bytes(rec: &[u8; 850], line: Line) {
+    show(code_number(record::codes::code_of(rec, line)));
+    show_bool(record::field_valid(
+        rec,
+        line,
+        Field {
+            start: 1,
+            width: 56,
+        },
+    ));
+}
+
+// Dates, a month and a routing number, in the fields of a batch header.
+fn show_dates(rec: &[u8; 850], line: Line) {
+    show_bool(calendar::date_ccyy_mm_dd(rec, line, layout::SUMMARY_DATE));
+    show_bool(calendar::date_yyyymmdd(rec, line, layout::CHECK_BATCH_CREATION_DATE));
+    show_bool(calendar::month_mmyy(rec, line, layout::CHECK_ACCOUNTING_MONTH_AND_YEAR));
+    show_bool(record::routing::field_routing(rec, line, layout::ORIGINATING_DI));
+}
+
+// An amount, and the order of the schedule number and the original schedule number.
+fn show_values(rec: &[u8; 850], line: Line) {
+    let amount = money::field_amount(rec, line, layout::SUMMARY_TOTAL_AMOUNT);
+    show(amount.high);
+    show(amount.low);
+    show_order(record::fields_order(
+        rec,
+        line,
+        layout::SCHEDULE_NUMBER,
+        rec,
+        line,
+        layout::ORIGINAL_SCHEDULE_NUMBER,
+    ));
+}
+
+// Reads and shows one record, and answers whether there was one.
+fn show_next() -> bool {
+    let mut rec = [0u8; 850];
+    let n = io::read_full(0, &mut rec);
+    if n < 850 {
+        return false;
+    }
+    let line = Line { number: 1 };
+    show_bytes(&rec, line);
+    show_dates(&rec, line);
+    show_values(&rec, line);
+    io::write_all(1, b"\n");
+    true
+}
+
+fn main() {
+    let mut turns: u64 = 1000;
+    while turns > 0 && show_next() {
+        turns -= 1;
+    }
+}
