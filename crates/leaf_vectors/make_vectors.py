@@ -57,7 +57,7 @@ vectors += [record(routing=r) for r in ["000000000", "01234567", "0123456X8", " 
 vectors += [record(amount=a) for a in ["9" * 20, "1" + "0" * 19, "0" * 9 + "12345678901", "0" * 15 + "12345", "12345", "0" * 19 + "A"]]
 order = ["A", "a", "1", "AB", "A1", "Aa", "Z", "9", "0", "-"]
 vectors += [record(schedule=x, original=y) for x in order for y in order]
-vectors += [record(raw={56: 0x3F}), record(raw={57: 0x3F}), record(raw={17: 0x00}), record(raw={56: 0x40}), record(raw={30: 0xFF})]
+vectors += [record(raw={56: 0x3F}), record(raw={57: 0x3F}), record(raw={17: 0x00}), record(raw={56: 0x40}), record(raw={20: 0xFF})]
 
 (here / "stdin").write_bytes(b"".join(data for data, _ in vectors))
 (here / "stdout").write_text("".join(line for _, line in vectors))
