@@ -1,6 +1,6 @@
 -- Dates in fields: the parts of a field that has the shape are digits, and the numbers that they write decide.
 -- Assumes nothing.
-use mathlib.Core.Path.{_≡_, refl, sym, ap, _∙_}
+use mathlib.Core.Path.{_≡_, refl, sym, _∙_}
 use mathlib.Core.Bool.{Bool, true, false}
 use mathlib.Core.List.{List}
 use Prim.Native.Nat.{ℕ, _≤_, _<_}
@@ -12,7 +12,7 @@ use Rattle.record.specs.Choice.{_and_}
 use Rattle.record.specs.Tests.{digits}
 use Rattle.record.specs.Numeral.{numeral}
 use Rattle.record.proofs.Chain.{and-left, and-right, and-no, and-yes}
-use Rattle.calendar.specs.Calendar.{daysIn, realDay, dashes, dashedDate, plainDate, monthYear}
+use Rattle.calendar.specs.Calendar.{realDay, dashes, dashedDate, plainDate, monthYear}
 
 -- the shape, where it was tested
 module _ (xs : List ℕ) (r : Bool) (e : r ≡ dashes xs) (t : r ≡ true) where

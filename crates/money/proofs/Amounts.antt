@@ -2,8 +2,8 @@
 -- Assumes nothing.
 use mathlib.Core.Path.{_≡_, refl, sym, ap, _∙_}
 use mathlib.Core.Bool.{Bool, true, false}
-use mathlib.Core.List.{List, _++_}
-use Prim.Native.Nat.{ℕ, _+_, _-_, _*_, _/_, _%_, _^_, _≤_, _<_}
+use mathlib.Core.List.{List}
+use Prim.Native.Nat.{ℕ, _+_, _-_, _*_, _≤_, _<_}
 use native.Mathlib.Nat.{pow-le-pow-right, lt-of-lt-of-le}
 use native.Mathlib.Omega.{arith}
 use lib.Dec.{eqb, ltb}
@@ -16,13 +16,12 @@ use Rattle.record.specs.Choice.{choose}
 use Rattle.record.specs.Value.{Has, held, seen}
 use Rattle.record.specs.Tests.{digits}
 use Rattle.record.specs.Numeral.{numeral}
-use Rattle.record.proofs.Chain.{choose-yes, choose-no}
 use Rattle.record.proofs.Held.{held-length}
 use Rattle.record.proofs.Every.{digits-part}
 use Rattle.record.proofs.Numbers.{numeral-append, numeral-below}
 use Rattle.money.specs.declared.Amount.{Amount}
 use Rattle.money.specs.declared.Signed.{Signed}
-use Rattle.money.specs.Money.{worth, split, cents, Whole, Fit, limit, entered, comesTo}
+use Rattle.money.specs.Money.{worth, split, cents, Whole, Fit, entered, comesTo}
 
 pub amount-equal : (a b : Amount) → a .high ≡ b .high → a .low ≡ b .low → a ≡ b
 amount-equal a b p q = λ i. record { high = p i; low = q i }

@@ -1,13 +1,13 @@
 -- The sum of a list: adding one amount after another gives exactly the amount of the sum, and up to 65,535 amounts of twenty digits never wrap.
 -- Assumes nothing.
-use mathlib.Core.Path.{_≡_, refl, sym, ap, _∙_}
+use mathlib.Core.Path.{_≡_, refl, ap, _∙_}
 use mathlib.Core.List.{List, [], _∷_, _++_}
 use Prim.Native.Nat.{ℕ, _+_, _*_, _≤_, _<_}
 use native.Mathlib.Nat.{add-assoc}
 use native.Mathlib.Omega.{arith}
 use lib.ListN.{length}
 use Rattle.money.specs.declared.Amount.{Amount}
-use Rattle.money.specs.Money.{worth, split, total, Whole, Fit, limit}
+use Rattle.money.specs.Money.{worth, split, total, Fit}
 use Rattle.money.proofs.Amounts.{worth-split, split-whole}
 
 -- amounts added one after another, as `plus` promises each step

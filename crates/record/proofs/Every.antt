@@ -3,19 +3,19 @@
 use mathlib.Core.Path.{_≡_, refl, sym, ap, _∙_}
 use mathlib.Core.Bool.{Bool, true, false}
 use mathlib.Core.List.{List, [], _∷_}
-use Prim.Native.Nat.{ℕ, zero, suc, _+_, _-_, _≤_, _<_, min}
+use Prim.Native.Nat.{ℕ, zero, suc, _+_, _≤_, _<_, min}
 use native.Mathlib.Numerals.{add-one}
 use native.Mathlib.Nat.{le-of-suc-le-suc, not-suc-le-zero}
 use native.Mathlib.Omega.{arith}
-use lib.Dec.{eqb, leb}
-use borrow.Author.Tests.{lt-leb, le-leb, eq-eqb, ne-eqb, leb-true, leb-false}
+use lib.Dec.{leb}
+use borrow.Author.Tests.{lt-leb, le-leb, leb-true, leb-false}
 use lib.ListN.{length, take, drop, getD, length-take, length-drop, drop-of-length-le}
 use lib.Seq.{drop-cons, getD-drop, getD-take, slice, slice-cons, slice-empty, take-all}
 use Rattle.record.specs.declared.place.Place.{Place}
 use Rattle.record.specs.Choice.{_and_}
 use Rattle.record.specs.Place.{Within, value}
-use Rattle.record.specs.Tests.{every, only, digit, digits, valid, leastFrom}
-use Rattle.record.proofs.Chain.{and-left, and-right, and-false}
+use Rattle.record.specs.Tests.{every, digit, digits, valid, leastFrom}
+use Rattle.record.proofs.Chain.{and-left, and-right}
 
 -- a value has as many bytes as its place is wide, and each is the record's
 pub value-length : (rec : List ℕ) (p : Place) → Within rec p → length (value rec p) ≡ p .width

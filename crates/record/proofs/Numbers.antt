@@ -1,14 +1,14 @@
 -- The number that digits write, once for every width.
 -- Assumes nothing.
-use mathlib.Core.Path.{_≡_, refl, ap, sym, _∙_}
-use mathlib.Core.Bool.{Bool, true, false}
+use mathlib.Core.Path.{_≡_, refl, sym, _∙_}
+use mathlib.Core.Bool.{true}
 use mathlib.Core.List.{List, [], _∷_, _++_}
-use Prim.Native.Nat.{ℕ, zero, suc, _+_, _-_, _*_, _^_, _≤_, _<_}
+use Prim.Native.Nat.{ℕ, suc, _+_, _-_, _*_, _^_, _≤_, _<_}
 use native.Mathlib.Numerals.{add-one}
 use native.Mathlib.Nat.{pow-suc, pow-zero, pow-le-pow-right, add-mul, mul-assoc, mul-comm, mul-le-mul-right, lt-of-lt-of-le}
 use native.Mathlib.Omega.{arith}
-use lib.ListN.{length, take, drop, getD, length-drop, take-append-drop}
-use lib.Seq.{slice, slice-cons, slice-empty, length-slice, getD-drop, getD-take, take-all}
+use lib.ListN.{length, take, getD}
+use lib.Seq.{slice, slice-cons, slice-empty, length-slice, getD-drop, getD-take}
 use Rattle.record.specs.declared.place.Place.{Place}
 use Rattle.record.specs.Place.{Within, value}
 use Rattle.record.specs.Tests.{every, digit, digits}

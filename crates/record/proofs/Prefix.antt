@@ -1,11 +1,11 @@
 -- The routing prefix, range by range, and the routing number that begins with it.
 -- Assumes nothing.
-use mathlib.Core.Path.{_≡_, refl, sym, ap, _∙_}
+use mathlib.Core.Path.{_≡_, sym, ap, _∙_}
 use mathlib.Core.Bool.{Bool, true, false}
 use mathlib.Core.List.{List}
 use Prim.Native.Nat.{ℕ, _≤_, _<_}
 use native.Mathlib.Omega.{arith}
-use borrow.Author.Tests.{lt-leb, le-leb, eq-eqb, ne-eqb}
+use borrow.Author.Tests.{lt-leb, le-leb, ne-eqb}
 use Rattle.record.specs.Choice.{_and_, _or_}
 use Rattle.record.specs.Tests.{digits}
 use Rattle.record.specs.Numeral.{numeral}

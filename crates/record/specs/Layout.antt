@@ -20,16 +20,16 @@ pub data Record : Type 0 where
 -- a row of 004's tables
 pub record Row : Type 0 where
   pub number : ℕ
-  pub place : Field
+  pub position : Field
   pub unused : Bool
 
 -- a row whose bytes are looked at
 abbrev pub field : ℕ → ℕ → ℕ → Row
-field n s w = record { number = n; place = record { start = s; width = w }; unused = false }
+field n s w = record { number = n; position = record { start = s; width = w }; unused = false }
 
 -- a row that 004 calls a filler: never looked at (01 Bytes)
 abbrev pub filler : ℕ → ℕ → ℕ → Row
-filler n s w = record { number = n; place = record { start = s; width = w }; unused = true }
+filler n s w = record { number = n; position = record { start = s; width = w }; unused = true }
 
 -- 004 chapter 2: field number, start position, length
 unfoldable pub layout : Record → List Row
@@ -169,7 +169,7 @@ rows (k ∷ ks) = layout k ++ rows ks
 -- the rows stand side by side from a position to the end: each begins where the one before it ended, and the last ends at 850
 unfoldable pub tiles : ℕ → List Row → Bool
 tiles at [] = eqb at 851
-tiles at (r ∷ rs) = eqb (r .place .start) at and tiles (at + r .place .width) rs
+tiles at (r ∷ rs) = eqb (r .position .start) at and tiles (at + r .position .width) rs
 
 -- the numbers of the rows, and of the fillers among them
 unfoldable pub numbers : List Row → List ℕ
@@ -180,12 +180,12 @@ fillers [] = []
 fillers (r ∷ rs) = choose (r .unused) (r .number ∷ fillers rs) (fillers rs)
 
 -- where the field of a number stands among the rows
-unfoldable pub placeIn : List Row → ℕ → Field
-placeIn [] n = record { start = 1; width = 0 }
-placeIn (r ∷ rs) n = choose (eqb (r .number) n) (r .place) (placeIn rs n)
+unfoldable pub positionIn : List Row → ℕ → Field
+positionIn [] n = record { start = 1; width = 0 }
+positionIn (r ∷ rs) n = choose (eqb (r .number) n) (r .position) (positionIn rs n)
 
 -- the fields that document 01 names, and the record code: what the code has constants for
 unfoldable pub named : List Field
 named =
-    map (placeIn (rows records))
+    map (positionIn (rows records))
     (1 ∷ 2 ∷ 3 ∷ 6 ∷ 7 ∷ 8 ∷ 9 ∷ 10 ∷ 12 ∷ 13 ∷ 14 ∷ 15 ∷ 16 ∷ 17 ∷ 18 ∷ 19 ∷ 20 ∷ 23 ∷ 24 ∷ 25 ∷ 26 ∷ 28 ∷ 29 ∷ 35 ∷ 36 ∷ 38 ∷ 42 ∷ 43 ∷ 44 ∷ 48 ∷ 51 ∷ 52 ∷ 54 ∷ 55 ∷ 56 ∷ 58 ∷ 59 ∷ 62 ∷ 66 ∷ 80 ∷ 84 ∷ 85 ∷ 86 ∷ 87 ∷ 96 ∷ 99 ∷ 100 ∷ 103 ∷ 104 ∷ 105 ∷ [])

@@ -1,6 +1,5 @@
 use borrow.Author.Needs.{needs}
 use Prim.Native.Nat.{_≤_, _-_}
-use native.Mathlib.Omega.{arith}
 use Rattle.record.specs.Place.{value}
 use Rattle.record.proofs.Orders.{Level, level-none, level-before, level-after, level-next, end-before, end-after, end-same}
 use Rattle.record.proofs.place.compare.Statement.{statement}
