@@ -47,12 +47,12 @@ pub read-none : (xs : List ℕ) (from to : ℕ) → Read xs from to from 0
 unfolding Read numeral
 read-none xs from to = refl
 
-pub read-next : (rec : List ℕ) (p : Place) (from to i n x d : ℕ) → Within rec p → to ≤ p .width → i < to → x ≡ getD (value rec p) i 0 → d ≡ x - 0xF0
+pub read-next : (rec : List ℕ) (p : Place) (from to i n d : ℕ) → Within rec p → to ≤ p .width → i < to → d ≡ getD (value rec p) i 0 - 0xF0
     → Read (value rec p) from to i n → Read (value rec p) from to (i + 1) (n * 10 + d)
 unfolding Read numeralFrom
-read-next rec p from to i n x d w l h e t r =
+read-next rec p from to i n d w l h e r =
     let k : to ≤ length (value rec p) = omega (arith, value-length rec p w) in
-    r ∙ rw (slice-cons i to (value rec p) 0, add-one, t, e)
+    r ∙ rw (slice-cons i to (value rec p) 0, add-one, e)
 
 pub read-end : (xs : List ℕ) (from to i n : ℕ) → i ≤ to → to ≤ i → Read xs from to i n → n ≡ numeral (slice from to xs)
 unfolding Read numeralFrom

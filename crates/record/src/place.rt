@@ -75,10 +75,13 @@ pub(crate) fn are_digits(rec: &[u8], place: Place, from: usize, to: usize) -> bo
     true
 }
 
-fn wide(x: u8) -> u64
-    ensures { λ r. ⌜ r ≡ x ⌝ }
+// What the digit at `i` counts, in a part that is digits.
+fn digit(rec: &[u8], place: Place, from: usize, to: usize, i: usize) -> u64
+    requires { ⌜ Within (now rec) place × (from ≤ i) × (i < to) × (to ≤ place .width) × (digits (slice from to (value (now rec) place)) ≡ true) ⌝ }
+    ensures { λ r. ⌜ (r ≡ getD (value (now (rec .entry)) place) i 0 - 0xF0) × (r ≤ 9) ⌝ }
 {
-    x as u64
+    let b = byte(rec, place, i) - 0xF0;
+    b as u64
 }
 
 // The number that the digits from `from` up to `to` write.
@@ -89,13 +92,13 @@ pub(crate) fn number(rec: &[u8], place: Place, from: usize, to: usize) -> u64
     let mut sum: u64 = 0;
     let mut i = from;
     while i < to {
-        let b = byte(rec, place, i);
-        sum = sum * 10 + wide(b - 0xF0);
+        sum = sum * 10 + digit(rec, place, from, to, i);
         i += 1;
     }
     sum
 }
 
+// The lesser of two bytes.
 fn lesser(a: u8, b: u8) -> u8
     ensures { λ r. ⌜ r ≡ min a b ⌝ }
 {
@@ -166,6 +169,7 @@ pub(crate) fn is_same(rec: &[u8], place: Place, other: &[u8], there: Place) -> b
     true
 }
 
+// The lesser of two widths.
 fn shorter(a: usize, b: usize) -> usize
     ensures { λ r. ⌜ r ≡ min a b ⌝ }
 {
