@@ -1,0 +1,8 @@
+mod Bytes
+mod Walks
+mod Frames
+mod Entries
+pub mod Pieces
+pub mod Chains
+mod Lookup
+pub mod Unique

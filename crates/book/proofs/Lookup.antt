@@ -1,0 +1,198 @@
+-- A section's entries, and what a binary search among them knows.
+-- Assumes nothing.
+use mathlib.Core.Path.{_≡_, refl, sym, _∙_}
+use mathlib.Core.Bool.{Bool, true, false}
+use mathlib.Core.List.{List, [], _∷_}
+use mathlib.Core.Logic.{⊎-elim}
+use Prim.Native.Nat.{ℕ, zero, suc, _+_, _-_, _*_, _/_, _≤_, _<_}
+use native.Mathlib.Nat.{eq-or-lt-of-le, eq-zero-or-pos, suc-mul, zero-mul, add-comm, add-sub-cancel-left}
+use native.Mathlib.Omega.{arith}
+use lib.ListN.{length, take, drop, getD, length-take, length-drop, List·getD-eq-default}
+use lib.Seq.{drop-drop}
+use Rattle.record.specs.declared.Field.{Field}
+use Rattle.record.specs.declared.Order.{Order}
+use Rattle.record.specs.declared.Order.the-variants.{Before, Same, After}
+use Rattle.record.specs.Value.{Has, held, seen}
+use Rattle.record.specs.Tests.{alike}
+use Rattle.record.specs.Ordering.{order}
+use Rattle.record.proofs.Chain.{and-left, and-right, choose-yes, choose-no}
+use Rattle.record.proofs.Same.{alike-equal, alike-self}
+use Rattle.record.proofs.Orders.{order-equal, order-self, order-transitive}
+use Rattle.book.specs.declared.Section.{Section}
+use Rattle.book.proofs.Bytes.{before}
+use Rattle.book.proofs.Entries.{cut-count}
+use Rattle.book.specs.Book.{lent, codeIn, isBefore, follow, ascend, cut, entriesAt, Shelved, entryFor, flagOf}
+
+-- an entry among those that are cut
+cut-at : (w n : ℕ) (xs : List ℕ) (j : ℕ) → j < n → getD (cut w n xs) j [] ≡ take w (drop (j * w) xs)
+unfolding cut
+cut-at w zero xs j h = absurd (omega arith)
+cut-at w (suc n) xs zero h = rw zero-mul
+cut-at w (suc n) xs (suc j) h = cut-at w n (drop w xs) j (omega arith) ∙ rw (drop-drop, suc-mul, add-comm w (j * w))
+
+-- a code is not one that it stands before
+unlike : (xs ys : List ℕ) → order xs ys ≡ Before → xs ≡ ys → ⊥
+unlike xs ys b e =
+    let s = order-self ys in
+    let z : _≡_ {A = ℕ} 0 1 = cc in
+    omega arith
+
+apart : (xs ys : List ℕ) → (xs ≡ ys → ⊥) → alike xs ys ≡ false
+apart xs ys d = go (alike xs ys) refl
+  where
+    go : (t : Bool) → alike xs ys ≡ t → t ≡ false
+    go true e = absurd (d (alike-equal xs ys e))
+    go false e = refl
+
+told-before : (o : Order) → isBefore o ≡ true → o ≡ Before
+unfolding isBefore
+told-before Before e = refl
+told-before Same e = absurd (let z : _≡_ {A = ℕ} 0 1 = cc in omega arith)
+told-before After e = absurd (let z : _≡_ {A = ℕ} 0 1 = cc in omega arith)
+
+module _ (width : ℕ) where
+  -- the code of entry j
+  abbrev key : List (List ℕ) → ℕ → List ℕ
+  key es j = codeIn width (getD es j [])
+
+  follows : (e : List ℕ) (es : List (List ℕ)) → follow width e es ≡ true → (j : ℕ) → j < length es → order (codeIn width e) (key es j) ≡ Before
+  unfolding follow
+  follows e [] t j h = absurd (omega arith)
+  follows e (f ∷ fs) t zero h = told-before _ (and-left _ _ t)
+  follows e (f ∷ fs) t (suc j) h =
+      order-transitive _ _ _ (told-before _ (and-left _ _ t)) (follows f fs (and-right _ _ t) j (omega arith))
+
+  rest : (e : List ℕ) (es : List (List ℕ)) → follow width e es ≡ true → ascend width es ≡ true
+  unfolding follow ascend
+  rest e [] t = refl
+  rest e (f ∷ fs) t = and-right _ _ t
+
+  ascends : (es : List (List ℕ)) → ascend width es ≡ true → (i j : ℕ) → i < j → j < length es → order (key es i) (key es j) ≡ Before
+  unfolding ascend
+  ascends [] t i j l h = absurd (omega arith)
+  ascends (e ∷ es) t i zero l h = absurd (omega arith)
+  ascends (e ∷ es) t zero (suc j) l h = follows e es t j (omega arith)
+  ascends (e ∷ es) t (suc i) (suc j) l h = ascends es (rest e es t) i j (omega arith) (omega arith)
+
+  -- the first entry that has the code is the one that is meant
+  first : (es : List (List ℕ)) (x : List ℕ) (m : ℕ) → m < length es → key es m ≡ x → ((j : ℕ) → j < m → key es j ≡ x → ⊥) → getD es m [] ≡ entryFor width es x
+  unfolding entryFor
+  first [] x m h e d = absurd (omega arith)
+  first (f ∷ es) x zero h e d = choose-yes _ _ _ _ (rw e (alike-self x)) refl
+  first (f ∷ es) x (suc m) h e d =
+      choose-no _ _ _ _ (apart _ _ (d 0 (omega arith))) (first es x m (omega arith) e (λ j l. d (suc j) (omega arith)))
+
+  none : (es : List (List ℕ)) (x : List ℕ) → ((j : ℕ) → j < length es → key es j ≡ x → ⊥) → [] ≡ entryFor width es x
+  unfolding entryFor
+  none [] x d = refl
+  none (f ∷ es) x d = choose-no _ _ _ _ (apart _ _ (d 0 (omega arith))) (none es x (λ j l. d (suc j) (omega arith)))
+
+-- the code of entry j of a section
+abbrev keyAt : List ℕ → Section → ℕ → List ℕ
+keyAt book s j = key (s .code) (entriesAt book s) j
+
+-- where an entry's code stands
+abbrev codeField : Section → Field
+codeField s = record { start = 1; width = s .code }
+
+-- entry m as it is read from the book
+abbrev partAt : List ℕ → Section → ℕ → List ℕ
+partAt book s m = take (s .start + m * s .entry + s .entry - (s .start + m * s .entry)) (drop (s .start + m * s .entry) book)
+
+entries-length : (book : List ℕ) (s : Section) → length (entriesAt book s) ≡ s .count
+unfolding entriesAt
+entries-length book s = cut-count _ _ _
+
+part-is : (book : List ℕ) (s : Section) (m : ℕ) → m < s .count → partAt book s m ≡ getD (entriesAt book s) m []
+unfolding entriesAt
+part-is book s m h = rw add-sub-cancel-left (sym (cut-at _ _ _ m h ∙ rw drop-drop))
+
+-- the entry that is looked at next
+abbrev middle : ℕ → ℕ → ℕ
+middle low high = low + (high - low) / 2
+
+-- what a binary search knows: no entry before low has the code x, and none from high on
+pub record Bracket (book : List ℕ) (s : Section) (x : List ℕ) (low high : ℕ) : Type 0 where
+  pub ordered : low ≤ high
+  pub inside : high ≤ s .count
+  pub below : (j : ℕ) → j < low → keyAt book s j ≡ x → ⊥
+  pub above : (j : ℕ) → high ≤ j → j < s .count → keyAt book s j ≡ x → ⊥
+
+pub opened : (book : List ℕ) (s : Section) (x : List ℕ) → Bracket book s x 0 (s .count)
+opened book s x = record {
+  ordered = omega arith;
+  inside = omega arith;
+  below = λ j l. absurd (omega arith);
+  above = λ j l h. absurd (omega arith);
+}
+
+module _ {book : List ℕ} {s : Section} {x : List ℕ} {low high : ℕ} (b : Bracket book s x low high) where
+  inner : low < high → middle low high < s .count
+  inner l = omega arith
+
+  -- the middle entry ends where the section ends, or before
+  pub fits : low < high → middle low high * s .entry + s .entry ≤ s .count * s .entry
+  fits l = before _ _ (s .entry) (inner l)
+
+  module _ (sh : Shelved book s) where
+    -- their codes ascend
+    up : (i j : ℕ) → i < j → j < s .count → order (keyAt book s i) (keyAt book s j) ≡ Before
+    up i j l h = ascends (s .code) (entriesAt book s) (sh .ascending) i j l (omega (arith, entries-length book s))
+
+    pub readable : low < high → Has (partAt book s (middle low high)) (codeField s)
+    readable l =
+        let r = fits l in
+        (omega arith, simp (add-sub-cancel-left, length-take, length-drop) (omega arith))
+
+    pub missed : high ≤ low → [] ≡ entryFor (s .code) (entriesAt book s) x
+    missed h =
+        none _ _ _ (λ j l.
+        ⊎-elim
+        (λ (q : low - j ≡ 0). b .above j (omega arith) (omega (arith, entries-length book s)))
+        (λ (q : 0 < low - j). b .below j (omega arith))
+        (eq-zero-or-pos (low - j)))
+
+    -- r is how the middle entry stands to x
+    module _ (r : Order) (lt : low < high) (e : r ≡ order (held (seen lent (partAt book s (middle low high))) (codeField s)) x) where
+      -- that code is read where it stands
+      known : r ≡ order (keyAt book s (middle low high)) x
+      unfolding codeIn
+      known = e ∙ rw (part-is book s (middle low high) (inner lt))
+
+      pub hit : r ≡ Same → partAt book s (middle low high) ≡ entryFor (s .code) (entriesAt book s) x
+      hit t =
+          let k : keyAt book s (middle low high) ≡ x = order-equal _ _ (sym known ∙ t) in
+          part-is book s (middle low high) (inner lt)
+          ∙ first _ _ _ _ (omega (arith, entries-length book s)) k (λ j l q. unlike _ _ (up j _ l (inner lt)) (q ∙ sym k))
+
+      pub raised : r ≡ Before → Bracket book s x (middle low high + 1) high
+      raised t = record {
+        ordered = omega arith;
+        inside = b .inside;
+        below = λ j l q. ⊎-elim
+            (λ (i : j ≡ middle low high). unlike _ _ (sym known ∙ t) (rw (← i) q))
+            (λ (i : j < middle low high). unlike _ _ (order-transitive _ _ _ (up j _ i (inner lt)) (sym known ∙ t)) q)
+            (eq-or-lt-of-le (omega arith));
+        above = b .above;
+      }
+
+      pub lowered : r ≡ After → Bracket book s x low (middle low high)
+      lowered t = record {
+        ordered = omega arith;
+        inside = omega arith;
+        below = b .below;
+        above = λ j l h q.
+            let k = known in
+            let u = order-self x in
+            ⊎-elim
+            (λ (i : middle low high ≡ j). let z : _≡_ {A = ℕ} 0 1 = cc in omega arith)
+            (λ (i : middle low high < j). let v = up _ j i h in let z : _≡_ {A = ℕ} 0 1 = cc in omega arith)
+            (eq-or-lt-of-le l);
+      }
+
+-- what is shorter than an entry with a flag has none
+pub no-flag : (e : List ℕ) → length e < 9 → false ≡ flagOf e
+unfolding flagOf
+no-flag e h =
+    let n : length e ≤ 8 = omega arith in
+    rw (List·getD-eq-default e 0 n)

@@ -1,0 +1,19 @@
+use Rattle.book.proofs.Walks.{sound-read, sound-not}
+use borrow.Author.Needs.{needs}
+use Rattle.book.proofs.reading.is_sound.Statement.{statement}
+use Rattle.book.proofs.reading.is_sound.Tie as tie
+
+has-flags-requires : tie.Need-has-flags-requires
+has-flags-requires c κs = search needs
+
+does-ascend-requires : tie.Need-does-ascend-requires
+does-ascend-requires c κs = search needs
+
+returns : tie.Need-returns
+returns c = search (needs, sound-read)
+
+returns-2 : tie.Need-returns-2
+returns-2 c = search (needs, sound-not)
+
+pub is-sound-spec : {M : Type 1} → statement M
+is-sound-spec = tie.close (tie.spec has-flags-requires does-ascend-requires returns returns-2)

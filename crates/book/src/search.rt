@@ -1,0 +1,50 @@
+// Lookup by binary search: the entry is handed back as a part of the book.
+use crate::Section;
+use record::Field;
+use record::Line;
+use record::Order;
+ghost use mathlib.Core.Path.{_≡_};
+ghost use Rattle.record.specs.Value.{Has, seen, held};
+ghost use Rattle.book.specs.Book.{Shelved, entriesAt, entryFor, flagOf};
+
+// The entry whose code the field holds, or an empty part where there is none.
+pub fn find<'a>(book: &'a [u8], section: Section, rec: &[u8], line: Line, field: Field) -> &'a [u8]
+    requires { ⌜ Shelved (now book) section × Has (now rec) field ⌝ }
+    ensures { λ r. ⌜ now r ≡ entryFor (section .code) (entriesAt (now (book .entry)) section) (held (seen line (now (rec .entry))) field) ⌝ }
+{
+    let start = section.start;
+    let entry = section.entry;
+    let code = Field {
+        start: 1,
+        width: section.code,
+    };
+    let mut low = 0;
+    let mut high = section.count;
+    while low < high {
+        let middle = low + (high - low) / 2;
+        let at = start + middle * entry;
+        let end = at + entry;
+        match record::fields_order(&book[at..end], Line { number: 0 }, code, rec, line, field) {
+            Order::Before => {
+                low = middle + 1;
+            }
+            Order::After => {
+                high = middle;
+            }
+            Order::Same => {
+                return &book[at..end];
+            }
+        }
+    }
+    &book[0..0]
+}
+
+// The flag of the entry that was handed back: a CARS Reporter in kind 2, a credit in kind 3.
+pub fn flag(entry: &[u8]) -> bool
+    ensures { λ r. ⌜ r ≡ flagOf (now (entry .entry)) ⌝ }
+{
+    if entry.len() < 9 {
+        return false;
+    }
+    entry[8] == 1
+}
