@@ -21,7 +21,7 @@ use Rattle.record.proofs.Orders.{order-equal, order-self, order-transitive}
 use Rattle.book.specs.declared.Section.{Section}
 use Rattle.book.proofs.Bytes.{before}
 use Rattle.book.proofs.Entries.{cut-count}
-use Rattle.book.specs.Book.{lent, codeIn, isBefore, follow, ascend, cut, entriesAt, Shelved, entryFor, flagOf}
+use Rattle.book.specs.Book.{lent, entryCode, isBefore, follow, ascend, cut, entriesAt, Shelved, entryFor, flagOf}
 
 -- an entry among those that are cut
 cut-at : (w n : ℕ) (xs : List ℕ) (j : ℕ) → j < n → getD (cut w n xs) j [] ≡ take w (drop (j * w) xs)
@@ -53,9 +53,9 @@ told-before After e = absurd (let z : _≡_ {A = ℕ} 0 1 = cc in omega arith)
 module _ (width : ℕ) where
   -- the code of entry j
   abbrev key : List (List ℕ) → ℕ → List ℕ
-  key es j = codeIn width (getD es j [])
+  key es j = entryCode width (getD es j [])
 
-  follows : (e : List ℕ) (es : List (List ℕ)) → follow width e es ≡ true → (j : ℕ) → j < length es → order (codeIn width e) (key es j) ≡ Before
+  follows : (e : List ℕ) (es : List (List ℕ)) → follow width e es ≡ true → (j : ℕ) → j < length es → order (entryCode width e) (key es j) ≡ Before
   unfolding follow
   follows e [] t j h = absurd (omega arith)
   follows e (f ∷ fs) t zero h = told-before _ (and-left _ _ t)
@@ -156,7 +156,7 @@ module _ {book : List ℕ} {s : Section} {x : List ℕ} {low high : ℕ} (b : Br
     module _ (r : Order) (lt : low < high) (e : r ≡ order (held (seen lent (partAt book s (middle low high))) (codeField s)) x) where
       -- that code is read where it stands
       known : r ≡ order (keyAt book s (middle low high)) x
-      unfolding codeIn
+      unfolding entryCode
       known = e ∙ rw (part-is book s (middle low high) (inner lt))
 
       pub hit : r ≡ Same → partAt book s (middle low high) ≡ entryFor (s .code) (entriesAt book s) x

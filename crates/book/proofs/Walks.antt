@@ -17,7 +17,7 @@ use Rattle.record.specs.Tests.{every}
 use Rattle.record.specs.Ordering.{order}
 use Rattle.record.proofs.Chain.{and-no, and-yes}
 use Rattle.book.specs.declared.Section.{Section}
-use Rattle.book.specs.Book.{codeIn, flagged, isBefore, follow, ascend, cut, entriesAt}
+use Rattle.book.specs.Book.{entryCode, flagged, isBefore, follow, ascend, cut, entriesAt}
 use Rattle.book.specs.Reading.{flags, soundIn}
 use Rattle.book.proofs.Bytes.{before, next-place, cut-next, cut-none}
 
@@ -96,7 +96,7 @@ module _ (bs : List ℕ) (s : Section) where
   pair-within i at l h w = omega (arith, l .0, before i (s .count) (s .entry) h)
 
   module _ (i at : ℕ) (r : Bool) (g : 1 ≤ i) (h : i < s .count) (l : CodesLeft bs s i at)
-      (e : r ≡ isBefore (order (codeIn (s .code) (take (s .entry) (drop at bs))) (codeIn (s .code) (take (s .entry) (drop (at + s .entry) bs))))) where
+      (e : r ≡ isBefore (order (entryCode (s .code) (take (s .entry) (drop at bs))) (entryCode (s .code) (take (s .entry) (drop (at + s .entry) bs))))) where
     pair : ascend (s .code) (cut (s .entry) (s .count + 1 - i) (drop at bs)) ≡ (r and ascend (s .code) (cut (s .entry) (s .count + 1 - (i + 1)) (drop (at + s .entry) bs)))
     unfolding ascend follow
     pair =
@@ -130,21 +130,21 @@ module _ (bs : List ℕ) (s : Section) where
 
 -- the order of two entries, as the code takes them out of the book
 module _ (bs : List ℕ) (at entry code : ℕ) (o : Order)
-    (e : o ≡ order (codeIn code (take (at + entry - at) (drop at bs))) (codeIn code (take (at + entry + entry - (at + entry)) (drop (at + entry) bs)))) where
-  told : o ≡ order (codeIn code (take entry (drop at bs))) (codeIn code (take entry (drop (at + entry) bs)))
+    (e : o ≡ order (entryCode code (take (at + entry - at) (drop at bs))) (entryCode code (take (at + entry + entry - (at + entry)) (drop (at + entry) bs)))) where
+  told : o ≡ order (entryCode code (take entry (drop at bs))) (entryCode code (take entry (drop (at + entry) bs)))
   told =
       let m : at + entry - at ≡ entry = omega arith in
       let n : at + entry + entry - (at + entry) ≡ entry = omega arith in
       e ∙ rw (m, n)
 
-  pub told-before : o ≡ Before → true ≡ isBefore (order (codeIn code (take entry (drop at bs))) (codeIn code (take entry (drop (at + entry) bs))))
+  pub told-before : o ≡ Before → true ≡ isBefore (order (entryCode code (take entry (drop at bs))) (entryCode code (take entry (drop (at + entry) bs))))
   unfolding isBefore
   told-before t = rw (sym told ∙ t)
 
-  pub told-same : o ≡ Same → false ≡ isBefore (order (codeIn code (take entry (drop at bs))) (codeIn code (take entry (drop (at + entry) bs))))
+  pub told-same : o ≡ Same → false ≡ isBefore (order (entryCode code (take entry (drop at bs))) (entryCode code (take entry (drop (at + entry) bs))))
   unfolding isBefore
   told-same t = rw (sym told ∙ t)
 
-  pub told-after : o ≡ After → false ≡ isBefore (order (codeIn code (take entry (drop at bs))) (codeIn code (take entry (drop (at + entry) bs))))
+  pub told-after : o ≡ After → false ≡ isBefore (order (entryCode code (take entry (drop at bs))) (entryCode code (take entry (drop (at + entry) bs))))
   unfolding isBefore
   told-after t = rw (sym told ∙ t)

@@ -43,8 +43,8 @@ abbrev pub lent : Line
 lent = record { number = 0 }
 
 -- the code of an entry
-unfoldable pub codeIn : ℕ → List ℕ → List ℕ
-codeIn width e = held (seen lent e) (record { start = 1; width = width })
+unfoldable pub entryCode : ℕ → List ℕ → List ℕ
+entryCode width e = held (seen lent e) (record { start = 1; width = width })
 
 -- a flag is 1 or 0 (CARS Reporter or not, credit or debit)
 unfoldable pub flagged : ℕ → List ℕ → Bool
@@ -59,7 +59,7 @@ isBefore After = false
 -- codes strictly ascend by bytes; e is the entry before these
 unfoldable pub follow : ℕ → List ℕ → List (List ℕ) → Bool
 follow width e [] = true
-follow width e (f ∷ fs) = isBefore (order (codeIn width e) (codeIn width f)) and follow width f fs
+follow width e (f ∷ fs) = isBefore (order (entryCode width e) (entryCode width f)) and follow width f fs
 
 unfoldable pub ascend : ℕ → List (List ℕ) → Bool
 ascend width [] = true
@@ -88,30 +88,6 @@ joined (e ∷ es) = e ++ joined es
 -- a section: four bytes with the length of kind and entries together, two with the kind, the entries
 unfoldable pub sectionOf : Kind → List (List ℕ) → List ℕ
 sectionOf k es = little 4 (2 + length (joined es)) ++ little 2 (k .number) ++ joined es
-
--- the bytes cut into n entries of w bytes
-unfoldable pub cut : ℕ → ℕ → List ℕ → List (List ℕ)
-cut w zero xs = []
-cut w (suc n) xs = take w xs ∷ cut w n (drop w xs)
-
--- the entries of the section that stands there
-unfoldable pub entriesAt : List ℕ → Section → List (List ℕ)
-entriesAt bytes s = cut (s .entry) (s .count) (drop (s .start) bytes)
-
--- a section that can be looked up in: its entries lie in the book, and their codes ascend
-pub record Shelved (bytes : List ℕ) (s : Section) : Type 0 where
-  pub wide : s .code ≤ s .entry
-  pub within : s .start + s .count * s .entry ≤ length bytes
-  pub ascending : ascend (s .code) (entriesAt bytes s) ≡ true
-
--- the entry whose code is x: no other can be meant, since codes ascend
-unfoldable pub entryFor : ℕ → List (List ℕ) → List ℕ → List ℕ
-entryFor width [] x = []
-entryFor width (e ∷ es) x = choose (alike (codeIn width e) x) e (entryFor width es x)
-
--- the flag of an entry of kind 2 or 3, after a code of eight bytes; an empty entry has none
-unfoldable pub flagOf : List ℕ → Bool
-flagOf e = eqb (getD e 8 0) 1
 
 -- what a book lists
 pub record Contents : Type 0 where
@@ -208,6 +184,30 @@ shut = record {
 pub data Opened (bytes : List ℕ) : Book → Type 0 where
   sound : (c : Contents) → Lists bytes c → Opened bytes (placed c)
   unsound : ((c : Contents) → Lists bytes c → ⊥) → Opened bytes shut
+
+-- the bytes cut into n entries of w bytes
+unfoldable pub cut : ℕ → ℕ → List ℕ → List (List ℕ)
+cut w zero xs = []
+cut w (suc n) xs = take w xs ∷ cut w n (drop w xs)
+
+-- the entries of the section that stands there
+unfoldable pub entriesAt : List ℕ → Section → List (List ℕ)
+entriesAt bytes s = cut (s .entry) (s .count) (drop (s .start) bytes)
+
+-- a section that can be looked up in: its entries lie in the book, and their codes ascend
+pub record Shelved (bytes : List ℕ) (s : Section) : Type 0 where
+  pub wide : s .code ≤ s .entry
+  pub within : s .start + s .count * s .entry ≤ length bytes
+  pub ascending : ascend (s .code) (entriesAt bytes s) ≡ true
+
+-- the entry whose code is x: no other can be meant, since codes ascend
+unfoldable pub entryFor : ℕ → List (List ℕ) → List ℕ → List ℕ
+entryFor width [] x = []
+entryFor width (e ∷ es) x = choose (alike (entryCode width e) x) e (entryFor width es x)
+
+-- the flag of an entry of kind 2 or 3, after a code of eight bytes; an empty entry has none
+unfoldable pub flagOf : List ℕ → Bool
+flagOf e = eqb (getD e 8 0) 1
 
 -- every section of the book can be looked up in
 pub record Usable (bytes : List ℕ) (r : Book) : Type 0 where

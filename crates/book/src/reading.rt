@@ -8,7 +8,7 @@ use record::Order;
 ghost use mathlib.Core.Path.{_≡_};
 ghost use Prim.Native.Nat.{_≤_, _<_, _+_, _*_};
 ghost use lib.ListN.{length, take, drop};
-ghost use Rattle.book.specs.Book.{codeIn, isBefore, ascend, entriesAt, Opened, shut};
+ghost use Rattle.book.specs.Book.{entryCode, isBefore, ascend, entriesAt, Opened, shut};
 ghost use Rattle.record.specs.Ordering.{order};
 ghost use Rattle.book.specs.Reading.{worth, flags, lost, begun, bound, ended, framed, soundIn, Readable, Kinded, sectionAt, sectionAfter};
 
@@ -136,7 +136,7 @@ fn has_flags(book: &[u8], section: Section) -> bool
 // The entry at `at` stands before the one after it, by their codes.
 fn is_pair(book: &[u8], at: usize, code: usize, entry: usize) -> bool
     requires { ⌜ (at + entry + entry ≤ length (now book)) × (code ≤ entry) ⌝ }
-    ensures { λ r. ⌜ r ≡ isBefore (order (codeIn code (take entry (drop at (now (book .entry))))) (codeIn code (take entry (drop (at + entry) (now (book .entry)))))) ⌝ }
+    ensures { λ r. ⌜ r ≡ isBefore (order (entryCode code (take entry (drop at (now (book .entry))))) (entryCode code (take entry (drop (at + entry) (now (book .entry)))))) ⌝ }
 {
     let next = at + entry;
     let end = next + entry;

@@ -47,7 +47,7 @@ side (suc x) (suc y) = up (side x y)
     up (same h k) = same (omega arith) (omega arith)
 
 -- the other way round
-pub turned : Order → Order
+unfoldable pub turned : Order → Order
 turned Before = After
 turned Same = Same
 turned After = Before

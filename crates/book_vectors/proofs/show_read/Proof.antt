@@ -9,6 +9,7 @@ slice-relend-prefix-read-full c = search needs
 
 slice-aggregate-read-full : tie.Need-slice-aggregate-read-full
 slice-aggregate-read-full c = sym (length-take-le _ _ (search needs))
+
 read-full-requires : tie.Need-read-full-requires
 read-full-requires c κs = search needs
 
@@ -17,6 +18,7 @@ slice-reshare-prefix-show-book c = search needs
 
 slice-aggregate-show-book : tie.Need-slice-aggregate-show-book
 slice-aggregate-show-book c = sym (length-take-le _ _ (search needs))
+
 show-book-requires : tie.Need-show-book-requires
 show-book-requires c κs = search needs
 

@@ -1,4 +1,4 @@
-use Rattle.book.specs.Book.{codeIn}
+use Rattle.book.specs.Book.{entryCode}
 use Rattle.book.proofs.Walks.{told-before, told-same, told-after}
 use borrow.Author.Needs.{needs}
 use Rattle.book.proofs.reading.is_pair.Statement.{statement}
@@ -41,15 +41,15 @@ enum-told-3 : tie.Need-enum-told-3
 enum-told-3 c = search needs
 
 returns : tie.Need-returns
-unfolding codeIn
+unfolding entryCode
 returns c = search (needs, told-before)
 
 returns-2 : tie.Need-returns-2
-unfolding codeIn
+unfolding entryCode
 returns-2 c = search (needs, told-same)
 
 returns-3 : tie.Need-returns-3
-unfolding codeIn
+unfolding entryCode
 returns-3 c = search (needs, told-after)
 
 pub is-pair-spec : {M : Type 1} → statement M
