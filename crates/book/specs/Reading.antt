@@ -22,6 +22,12 @@ pub record Kinded (k : Kind) : Type 0 where
   pub whole : k .code ≤ k .entry
   pub flag : k .entry ≤ k .code + 1
 
+-- a section that lies in the book, whose entries are a code and at most one byte more
+pub record Framed (bytes : List ℕ) (s : Section) : Type 0 where
+  pub within : s .start + s .count * s .entry ≤ length bytes
+  pub whole : s .code ≤ s .entry
+  pub flag : s .entry ≤ s .code + 1
+
 -- the number that little-endian bytes write
 unfoldable pub worth : List ℕ → ℕ
 worth [] = 0

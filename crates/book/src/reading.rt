@@ -1,4 +1,4 @@
-// Whether a book is sound, and where its sections stand: each byte is read once, from the front.
+// Whether a book is sound, and where its sections stand: one walk from the front, linear in the book.
 use crate::Book;
 use crate::Kind;
 use crate::Section;
@@ -6,11 +6,11 @@ use record::Field;
 use record::Line;
 use record::Order;
 ghost use mathlib.Core.Path.{_≡_};
-ghost use Prim.Native.Nat.{_≤_, _<_, _+_, _*_};
+ghost use Prim.Native.Nat.{_≤_, _<_, _+_};
 ghost use lib.ListN.{length, take, drop};
-ghost use Rattle.book.specs.Book.{entryCode, isBefore, ascend, entriesAt, Opened, shut};
+ghost use Rattle.book.specs.Book.{entryCode, isBefore, ascend, entriesAt, Opened, nowhere, shut};
 ghost use Rattle.record.specs.Ordering.{order};
-ghost use Rattle.book.specs.Reading.{worth, flags, lost, begun, bound, ended, framed, soundIn, Readable, Kinded, sectionAt, sectionAfter};
+ghost use Rattle.book.specs.Reading.{worth, flags, lost, begun, bound, ended, framed, soundIn, Readable, Kinded, Framed, sectionAt, sectionAfter};
 
 // The kinds of document 01: number, bytes of a code, bytes of an entry.
 const SYSTEMS: Kind = Kind {
@@ -91,7 +91,7 @@ fn four(book: &[u8], at: usize) -> usize
 
 // The frame of a section of the kind stands at `at`.
 fn is_framed(book: &[u8], at: usize, kind: Kind) -> bool
-    requires { ⌜ (at ≤ length (now book)) × (length (now book) ≤ 16777216) × (1 ≤ kind .entry) ⌝ }
+    requires { ⌜ Readable (now book) at × Kinded kind ⌝ }
     ensures { λ r. ⌜ r ≡ framed (now (book .entry)) at kind ⌝ }
 {
     if book.len() < at + 6 {
@@ -112,7 +112,7 @@ fn is_framed(book: &[u8], at: usize, kind: Kind) -> bool
 
 // Every flag of the section is 0 or 1.
 fn has_flags(book: &[u8], section: Section) -> bool
-    requires { ⌜ (section .start + section .count * section .entry ≤ length (now book)) × (section .code ≤ section .entry) × (section .entry ≤ section .code + 1) ⌝ }
+    requires { ⌜ Framed (now book) section ⌝ }
     ensures { λ r. ⌜ r ≡ flags (section .code) (entriesAt (now (book .entry)) section) ⌝ }
 {
     let count = section.count;
@@ -160,7 +160,7 @@ fn is_pair(book: &[u8], at: usize, code: usize, entry: usize) -> bool
 
 // The codes of the section strictly ascend.
 fn does_ascend(book: &[u8], section: Section) -> bool
-    requires { ⌜ (section .start + section .count * section .entry ≤ length (now book)) × (section .code ≤ section .entry) ⌝ }
+    requires { ⌜ Framed (now book) section ⌝ }
     ensures { λ r. ⌜ r ≡ ascend (section .code) (entriesAt (now (book .entry)) section) ⌝ }
 {
     let count = section.count;
@@ -180,7 +180,7 @@ fn does_ascend(book: &[u8], section: Section) -> bool
 
 // Flags and order of the section are right.
 fn is_sound(book: &[u8], section: Section) -> bool
-    requires { ⌜ (section .start + section .count * section .entry ≤ length (now book)) × (section .code ≤ section .entry) × (section .entry ≤ section .code + 1) ⌝ }
+    requires { ⌜ Framed (now book) section ⌝ }
     ensures { λ r. ⌜ r ≡ soundIn (now (book .entry)) section ⌝ }
 {
     if has_flags(book, section) {
@@ -190,15 +190,22 @@ fn is_sound(book: &[u8], section: Section) -> bool
 }
 
 // No section.
-fn lose() -> Found
-    ensures { λ r. ⌜ r ≡ lost ⌝ }
+fn nothing() -> Section
+    ensures { λ r. ⌜ r ≡ nowhere ⌝ }
 {
-    let section = Section {
+    Section {
         start: 0,
         count: 0,
         code: 0,
         entry: 0,
-    };
+    }
+}
+
+// What reading a section comes to where there is none.
+fn lose() -> Found
+    ensures { λ r. ⌜ r ≡ lost ⌝ }
+{
+    let section = nothing();
     Found {
         ok: false,
         section,
@@ -250,12 +257,7 @@ fn section_after(book: &[u8], found: Found, kind: Kind) -> Found
 fn begin() -> Found
     ensures { λ r. ⌜ r ≡ begun ⌝ }
 {
-    let section = Section {
-        start: 0,
-        count: 0,
-        code: 0,
-        entry: 0,
-    };
+    let section = nothing();
     Found {
         ok: true,
         section,
@@ -308,12 +310,7 @@ fn is_end(book: &[u8], found: Found) -> bool
 fn close() -> Book
     ensures { λ r. ⌜ r ≡ shut ⌝ }
 {
-    let none = Section {
-        start: 0,
-        count: 0,
-        code: 0,
-        entry: 0,
-    };
+    let none = nothing();
     Book {
         sound: false,
         systems: none,

@@ -23,7 +23,7 @@ div-count c = search needs
 
 is-sound-requires : tie.Need-is-sound-requires
 unfolding sizeAt
-is-sound-requires c κs = (in-frame _ _ _ _ (c .before .before .before .is-framed .ensures) (c .before .before .if1 .taken) _ (c .before .four .ensures .0), search needs, search needs)
+is-sound-requires c κs = record { within = in-frame _ _ _ _ (c .before .before .before .is-framed .ensures) (c .before .before .if1 .taken) _ (c .before .four .ensures .0); whole = search needs; flag = search needs }
 
 add-next : tie.Need-add-next
 add-next c = search needs
