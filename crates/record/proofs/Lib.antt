@@ -7,4 +7,5 @@ pub mod Orders
 pub mod Table
 pub mod CodeList
 mod Prefix
+pub mod Examples
 pub mod Unique
