@@ -61,6 +61,7 @@ unfoldable pub follow : ℕ → List ℕ → List (List ℕ) → Bool
 follow width e [] = true
 follow width e (f ∷ fs) = isBefore (order (entryCode width e) (entryCode width f)) and follow width f fs
 
+-- the codes of a section strictly ascend
 unfoldable pub ascend : ℕ → List (List ℕ) → Bool
 ascend width [] = true
 ascend width (e ∷ es) = follow width e es
@@ -152,6 +153,7 @@ countriesAt c = standing (past (statesAt c)) countryKind (c .countries)
 abbrev pub currenciesAt : Contents → Section
 currenciesAt c = standing (past (countriesAt c)) currencyKind (c .currencies)
 
+-- a sound book
 unfoldable pub placed : Contents → Book
 placed c = record {
   sound = true;
@@ -164,10 +166,11 @@ placed c = record {
   currencies = currenciesAt c;
 }
 
--- no section, and what an unsound book is found to be
+-- no section
 abbrev pub nowhere : Section
 nowhere = record { start = 0; count = 0; code = 0; entry = 0 }
 
+-- an unsound book
 unfoldable pub shut : Book
 shut = record {
   sound = false;

@@ -3,13 +3,15 @@
 use mathlib.Core.Path.{_≡_, refl, sym, ap, _∙_}
 use mathlib.Core.Bool.{Bool, true, false}
 use mathlib.Core.List.{_∷_}
-use mathlib.Core.Logic.{_⊎_, inl, inr}
+use mathlib.Core.Logic.{_⊎_, inl, inr, ⊎-elim}
 use Prim.Native.Nat.{ℕ, zero, suc, _%_, _≤_, _<_}
+use native.Mathlib.Nat.{eq-or-lt-of-le, le-of-suc-le-suc, lt-irrefl}
 use native.Mathlib.Omega.{arith}
 use lib.Dec.{eqb, leb}
-use borrow.Author.Tests.{eq-eqb, ne-eqb}
-use lib.ListN.{List·getD-eq-default}
+use borrow.Author.Tests.{eq-eqb, ne-eqb, eqb-true}
+use lib.ListN.{getD, List·getD-eq-default}
 use Rattle.record.specs.Choice.{_and_, _or_, choose}
+use Rattle.record.proofs.Chain.{and-left, and-right}
 use Rattle.calendar.specs.Calendar.{leap, lengths, daysIn}
 
 module _ (y : ℕ) where
@@ -52,23 +54,40 @@ module _ (y m : ℕ) where
   thirty (inr (inr (inl e))) = rw e
   thirty (inr (inr (inr e))) = rw e
 
--- every other month
+-- a test that holds below n, computed
+below : (ℕ → Bool) → ℕ → Bool
+below p zero = true
+below p (suc n) = p n and below p n
+
+below-at : (p : ℕ → Bool) (n m : ℕ) → below p n ≡ true → m < n → p m ≡ true
+unfolding below
+below-at p zero m e h = absurd (omega (arith, h))
+below-at p (suc n) m e h =
+    ⊎-elim
+    (λ (q : m ≡ n). rw q (and-left (p n) (below p n) e))
+    (λ (q : m < n). below-at p n m (and-right (p n) (below p n) e) q)
+    (eq-or-lt-of-le (le-of-suc-le-suc h))
+
+-- no month, February, or a month of thirty days
+short : ℕ → Bool
+short m = eqb m 0 or eqb m 2 or eqb m 4 or eqb m 6 or eqb m 9 or eqb m 11
+
+-- every other number up to 12 is a month of 31 days
+long : Bool → ℕ → Bool
+long l m = short m or eqb 31 (getD (0 ∷ lengths l) m 0)
+
+all-long : (l : Bool) → below (long l) 13 ≡ true
+unfolding below long short lengths _and_ _or_
+all-long l = refl
+
 pub thirty-one : (y m : ℕ) → 1 ≤ m → m ≤ 12 → ((m ≡ 4) ⊎ ((m ≡ 6) ⊎ ((m ≡ 9) ⊎ (m ≡ 11))) → ⊥) → (m ≡ 2 → ⊥) → 31 ≡ daysIn y m
-unfolding daysIn lengths
-thirty-one y zero h k b c = absurd (omega (arith, h))
-thirty-one y (suc zero) h k b c = refl
-thirty-one y (suc (suc zero)) h k b c = absurd (c refl)
-thirty-one y (suc (suc (suc zero))) h k b c = refl
-thirty-one y (suc (suc (suc (suc zero)))) h k b c = absurd (b (inl refl))
-thirty-one y (suc (suc (suc (suc (suc zero))))) h k b c = refl
-thirty-one y (suc (suc (suc (suc (suc (suc zero)))))) h k b c = absurd (b (inr (inl refl)))
-thirty-one y (suc (suc (suc (suc (suc (suc (suc zero))))))) h k b c = refl
-thirty-one y (suc (suc (suc (suc (suc (suc (suc (suc zero)))))))) h k b c = refl
-thirty-one y (suc (suc (suc (suc (suc (suc (suc (suc (suc zero))))))))) h k b c = absurd (b (inr (inr (inl refl))))
-thirty-one y (suc (suc (suc (suc (suc (suc (suc (suc (suc (suc zero)))))))))) h k b c = refl
-thirty-one y (suc (suc (suc (suc (suc (suc (suc (suc (suc (suc (suc zero))))))))))) h k b c = absurd (b (inr (inr (inr refl))))
-thirty-one y (suc (suc (suc (suc (suc (suc (suc (suc (suc (suc (suc (suc zero)))))))))))) h k b c = refl
-thirty-one y (suc (suc (suc (suc (suc (suc (suc (suc (suc (suc (suc (suc (suc m))))))))))))) h k b c = absurd (omega (arith, k))
+unfolding daysIn long short _or_
+thirty-one y m h k b c =
+    let t = below-at (long (leap y)) 13 m (all-long (leap y)) (omega arith) in
+    eqb-true 31 (getD (0 ∷ lengths (leap y)) m 0)
+    (simp
+    (ne-eqb m 0 (λ (q : m ≡ 0). lt-irrefl 0 (omega (arith, q, h))), ne-eqb m 2 c, ne-eqb m 4 (λ q. b (inl q)), ne-eqb m 6 (λ q. b (inr (inl q))), ne-eqb m 9 (λ q. b (inr (inr (inl q)))), ne-eqb m 11 (λ q. b (inr (inr (inr q)))))
+    at t)
 
 -- the days that were asked for
 pub day-is : (y m d n : ℕ) → n ≡ daysIn y m → leb d n ≡ leb d (daysIn y m)

@@ -9,6 +9,7 @@ use Rattle.record.specs.Choice.{_and_, _or_, choose}
 use Rattle.record.specs.Tests.{digits}
 use Rattle.record.specs.Numeral.{numeral}
 
+-- d divides n
 abbrev pub divides : ℕ → ℕ → Bool
 divides d n = eqb (n % d) 0
 

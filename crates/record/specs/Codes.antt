@@ -20,15 +20,15 @@ letterByte A = 0xC1
 
 -- the two bytes of each code
 unfoldable pub codeBytes : Code → List ℕ
-codeBytes FileHeader = 0xC6 ∷ 0xC8 ∷ []
-codeBytes (Batch l) = 0xC2 ∷ letterByte l ∷ []
-codeBytes (Detail l) = 0xC4 ∷ letterByte l ∷ []
-codeBytes Party = 0xC4 ∷ 0xE7 ∷ []
-codeBytes Account = 0xC4 ∷ 0xE3 ∷ []
-codeBytes Procurement = 0xC4 ∷ 0xD7 ∷ []
-codeBytes BatchTrailer = 0xC2 ∷ 0xE3 ∷ []
-codeBytes FileTrailer = 0xC6 ∷ 0xE3 ∷ []
-codeBytes Unknown = []
+codeBytes FileHeader = 0xC6 ∷ 0xC8 ∷ []  -- FH
+codeBytes (Batch l) = 0xC2 ∷ letterByte l ∷ []  -- BN, BC, BW, BI, BA
+codeBytes (Detail l) = 0xC4 ∷ letterByte l ∷ []  -- DN, DC, DW, DI, DA
+codeBytes Party = 0xC4 ∷ 0xE7 ∷ []  -- DX
+codeBytes Account = 0xC4 ∷ 0xE3 ∷ []  -- DT
+codeBytes Procurement = 0xC4 ∷ 0xD7 ∷ []  -- DP
+codeBytes BatchTrailer = 0xC2 ∷ 0xE3 ∷ []  -- BT
+codeBytes FileTrailer = 0xC6 ∷ 0xE3 ∷ []  -- FT
+codeBytes Unknown = []  -- no code
 
 -- the sixteen codes, in the order in which the code asks for them: an order that cannot matter, since no two share their bytes
 abbrev pub frames : List Code
@@ -52,5 +52,6 @@ codeIn (c ∷ cs) xs = choose (alike xs (codeBytes c)) c (codeIn cs xs)
 abbrev pub recordCode : Field
 recordCode = record { start = 1; width = 2 }
 
+-- what a record is
 unfoldable pub codeOf : List ℕ → Code
 codeOf rec = codeIn codes (held rec recordCode)

@@ -6,6 +6,7 @@ use Rattle.record.specs.declared.Order.{Order}
 use Rattle.record.specs.declared.Order.the-variants.{Before, Same, After}
 use Rattle.record.specs.Choice.{choose}
 
+-- how the first stands to the second
 unfoldable pub order : List ℕ → List ℕ → Order
 order [] [] = Same
 order [] (y ∷ ys) = Before

@@ -26,6 +26,7 @@ zeros xs = only 0xF0 xs
 unfoldable pub digit : ℕ → Bool
 digit x = leb 0xF0 x and leb x 0xF9
 
+-- all digits (01 Batch reasons: a non-digit is badly shaped)
 unfoldable pub digits : List ℕ → Bool
 digits xs = every digit xs
 
