@@ -9,7 +9,7 @@ use native.Mathlib.Omega.{arith}
 use lib.ListN.{length, take, drop, getD, length-take, length-drop}
 use lib.Seq.{drop-cons, drop-drop, take-add}
 use Rattle.book.specs.Book.{cut}
-use Rattle.book.specs.Reading.{worth}
+use Rattle.book.specs.Reading.{numberOf}
 
 -- the first bytes of a part
 pub two-are : (bs : List ℕ) (at : ℕ) → at + 2 ≤ length bs → take 2 (drop at bs) ≡ getD bs at 0 ∷ getD bs (at + 1) 0 ∷ []
@@ -18,23 +18,23 @@ two-are bs at h =
     let n : suc at < length bs = omega arith in
     rw (add-one, drop-cons bs at 0, drop-cons bs (suc at) 0)
 
-pub worth-two : (bs : List ℕ) (at low high : ℕ) → at + 2 ≤ length bs → low ≡ getD bs at 0 → high ≡ getD bs (at + 1) 0 → low + high * 256 ≡ worth (take 2 (drop at bs))
-unfolding worth
-worth-two bs at low high h p q = rw (two-are bs at h) (omega (arith, p, q))
+pub number-two : (bs : List ℕ) (at low high : ℕ) → at + 2 ≤ length bs → low ≡ getD bs at 0 → high ≡ getD bs (at + 1) 0 → low + high * 256 ≡ numberOf (take 2 (drop at bs))
+unfolding numberOf
+number-two bs at low high h p q = rw (two-are bs at h) (omega (arith, p, q))
 
-worth-append : (xs ys : List ℕ) → worth (xs ++ ys) ≡ worth xs + worth ys * 256 ^ length xs
-unfolding worth
-worth-append [] ys = simp pow-zero (omega arith)
-worth-append (x ∷ xs) ys =
-    rw (worth-append xs ys, pow-suc, ← mul-assoc (worth ys) (256 ^ length xs) 256)
-    (omega (arith, add-mul (worth xs) (worth ys * 256 ^ length xs) 256))
+number-append : (xs ys : List ℕ) → numberOf (xs ++ ys) ≡ numberOf xs + numberOf ys * 256 ^ length xs
+unfolding numberOf
+number-append [] ys = simp pow-zero (omega arith)
+number-append (x ∷ xs) ys =
+    rw (number-append xs ys, pow-suc, ← mul-assoc (numberOf ys) (256 ^ length xs) 256)
+    (omega (arith, add-mul (numberOf xs) (numberOf ys * 256 ^ length xs) 256))
 
-pub worth-four : (bs : List ℕ) (at low high : ℕ) → at + 4 ≤ length bs → low ≡ worth (take 2 (drop at bs)) → high ≡ worth (take 2 (drop (at + 2) bs))
-    → low + high * 65536 ≡ worth (take 4 (drop at bs))
-worth-four bs at low high h p q =
+pub number-four : (bs : List ℕ) (at low high : ℕ) → at + 4 ≤ length bs → low ≡ numberOf (take 2 (drop at bs)) → high ≡ numberOf (take 2 (drop (at + 2) bs))
+    → low + high * 65536 ≡ numberOf (take 4 (drop at bs))
+number-four bs at low high h p q =
     let n : length (take 2 (drop at bs)) ≡ 2 = simp (length-take, length-drop) (omega arith) in
     let t : take 4 (drop at bs) ≡ take 2 (drop at bs) ++ take 2 (drop (at + 2) bs) = take-add 2 2 (drop at bs) ∙ rw (drop-drop 2 at bs) in
-    rw (t, worth-append, n) (omega (arith, p, q))
+    rw (t, number-append, n) (omega (arith, p, q))
 
 -- i entries lie before the ones that are left
 pub before : (i n w : ℕ) → i < n → i * w + w ≤ n * w

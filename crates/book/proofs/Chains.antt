@@ -3,11 +3,12 @@
 use mathlib.Core.Path.{_≡_, refl, sym, ap, _∙_}
 use mathlib.Core.Bool.{Bool, true, false, true≢false}
 use mathlib.Core.List.{List, [], _++_, append-nil, append-assoc}
-use Prim.Native.Nat.{ℕ, _≤_, _<_, zero-le}
+use Prim.Native.Nat.{ℕ, _+_, _≤_, _<_, zero-le}
 use native.Mathlib.Nat.{lt-irrefl}
 use native.Mathlib.Omega.{arith}
 use lib.ListN.{length, drop, length-drop, drop-of-length-le}
-use borrow.Author.Tests.{eq-eqb, eqb-true}
+use lib.Dec.{leb}
+use borrow.Author.Tests.{eq-eqb, eqb-true, leb-true}
 use Rattle.record.specs.Choice.{_and_, choose}
 use Rattle.record.proofs.Chain.{and-left, and-right, and-yes}
 use Rattle.book.specs.declared.Kind.{Kind}
@@ -20,26 +21,11 @@ use Rattle.book.specs.Reading.{Kinded, sectionAt, sectionAfter, lost, be
 use Rattle.book.proofs.Entries.{Bytes}
 use Rattle.book.proofs.Pieces.{Piece, piece, Stood, stood}
 
-pub system-kinded : Kinded systemKind
-system-kinded = record { some = omega arith; whole = omega arith; flag = omega arith }
-
-pub location-kinded : Kinded locationKind
-location-kinded = record { some = omega arith; whole = omega arith; flag = omega arith }
-
-pub betc-kinded : Kinded betcKind
-betc-kinded = record { some = omega arith; whole = omega arith; flag = omega arith }
-
-pub type-kinded : Kinded typeKind
-type-kinded = record { some = omega arith; whole = omega arith; flag = omega arith }
-
-pub state-kinded : Kinded stateKind
-state-kinded = record { some = omega arith; whole = omega arith; flag = omega arith }
-
-pub country-kinded : Kinded countryKind
-country-kinded = record { some = omega arith; whole = omega arith; flag = omega arith }
-
-pub currency-kinded : Kinded currencyKind
-currency-kinded = record { some = omega arith; whole = omega arith; flag = omega arith }
+-- a kind of document 01, by a test that is computed
+kinded : (k : Kind) → (leb 1 (k .entry) and leb (k .code) (k .entry) and leb (k .entry) (k .code + 1)) ≡ true → Kinded k
+kinded k e =
+    let f = and-right (leb 1 (k .entry)) _ e in
+    record { some = leb-true _ _ (and-left _ _ e); whole = leb-true _ _ (and-left _ _ f); flag = leb-true _ _ (and-right (leb (k .code) (k .entry)) _ f) }
 
 -- f was read, and its section is s
 record Step (f : Found) (s : Section) : Type 0 where
@@ -105,15 +91,15 @@ unfolding past
 front bs = refl
 
 pub shelves : (bs : List ℕ) (k : Contents) → Lists bs k → Shelves bs k
-unfolding past
+unfolding past _and_
 shelves bs k l =
-    let s1 = stood bs (past nowhere) systemKind (k .systems) (fromLocations k) (front bs ∙ l .made ∙ unrolled k) (l .systems) system-kinded (omega arith) (record { inside = zero-le; small = l .small }) in
-    let s2 = stood bs (past (systemsAt k)) locationKind (k .locations) (fromBetcs k) (s1 .left) (l .locations) location-kinded (omega arith) (s1 .readable) in
-    let s3 = stood bs (past (locationsAt k)) betcKind (k .betcs) (fromTypes k) (s2 .left) (l .betcs) betc-kinded (omega arith) (s2 .readable) in
-    let s4 = stood bs (past (betcsAt k)) typeKind (k .types) (fromStates k) (s3 .left) (l .types) type-kinded (omega arith) (s3 .readable) in
-    let s5 = stood bs (past (typesAt k)) stateKind (k .states) (fromCountries k) (s4 .left) (l .states) state-kinded (omega arith) (s4 .readable) in
-    let s6 = stood bs (past (statesAt k)) countryKind (k .countries) (fromCurrencies k) (s5 .left) (l .countries) country-kinded (omega arith) (s5 .readable) in
-    let s7 = stood bs (past (countriesAt k)) currencyKind (k .currencies) [] (s6 .left ∙ sym (append-nil _)) (l .currencies) currency-kinded (omega arith) (s6 .readable) in
+    let s1 = stood bs (past nowhere) systemKind (k .systems) (fromLocations k) (front bs ∙ l .made ∙ unrolled k) (l .systems) (kinded systemKind refl) (omega arith) (record { inside = zero-le; small = l .small }) in
+    let s2 = stood bs (past (systemsAt k)) locationKind (k .locations) (fromBetcs k) (s1 .left) (l .locations) (kinded locationKind refl) (omega arith) (s1 .readable) in
+    let s3 = stood bs (past (locationsAt k)) betcKind (k .betcs) (fromTypes k) (s2 .left) (l .betcs) (kinded betcKind refl) (omega arith) (s2 .readable) in
+    let s4 = stood bs (past (betcsAt k)) typeKind (k .types) (fromStates k) (s3 .left) (l .types) (kinded typeKind refl) (omega arith) (s3 .readable) in
+    let s5 = stood bs (past (typesAt k)) stateKind (k .states) (fromCountries k) (s4 .left) (l .states) (kinded stateKind refl) (omega arith) (s4 .readable) in
+    let s6 = stood bs (past (statesAt k)) countryKind (k .countries) (fromCurrencies k) (s5 .left) (l .countries) (kinded countryKind refl) (omega arith) (s5 .readable) in
+    let s7 = stood bs (past (countriesAt k)) currencyKind (k .currencies) [] (s6 .left ∙ sym (append-nil _)) (l .currencies) (kinded currencyKind refl) (omega arith) (s6 .readable) in
     record { systems = s1; locations = s2; betcs = s3; types = s4; states = s5; countries = s6; currencies = s7 }
 
 -- the seven sections of a book, one read after another

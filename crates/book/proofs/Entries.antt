@@ -13,7 +13,7 @@ use Rattle.record.proofs.Chain.{and-left, and-right}
 use Rattle.book.specs.declared.Kind.{Kind}
 use Rattle.book.specs.Book.{flagged, Each, little, joined, cut}
 use Rattle.book.specs.Book.Each.{none, more}
-use Rattle.book.specs.Reading.{worth, flags}
+use Rattle.book.specs.Reading.{numberOf, flags}
 
 -- little-endian bytes
 pub little-length : (w n : ℕ) → length (little w n) ≡ w
@@ -21,23 +21,23 @@ unfolding little
 little-length zero n = refl
 little-length (suc w) n = ap suc (little-length w (n / 256))
 
-pub little-worth : (w n : ℕ) → n < 256 ^ w → worth (little w n) ≡ n
-unfolding little worth
-little-worth zero n h = omega (arith, h)
-little-worth (suc w) n h = rw (little-worth w (n / 256) (omega (arith, rw pow-suc at h))) (omega arith)
+pub little-number : (w n : ℕ) → n < 256 ^ w → numberOf (little w n) ≡ n
+unfolding little numberOf
+little-number zero n h = omega (arith, h)
+little-number (suc w) n h = rw (little-number w (n / 256) (omega (arith, rw pow-suc at h))) (omega arith)
 
 -- every element is a byte
 pub Bytes : List ℕ → Type 0
 Bytes [] = Unit {0}
 Bytes (x ∷ xs) = (x < 256) × Bytes xs
 
-pub worth-little : (xs : List ℕ) → Bytes xs → little (length xs) (worth xs) ≡ xs
-unfolding little worth Bytes
-worth-little [] b = refl
-worth-little (x ∷ xs) b =
-    let h : (x + worth xs * 256) % 256 ≡ x = omega (arith, b .0) in
-    let d : (x + worth xs * 256) / 256 ≡ worth xs = omega (arith, b .0) in
-    rw (h, d, worth-little xs (b .1))
+pub number-little : (xs : List ℕ) → Bytes xs → little (length xs) (numberOf xs) ≡ xs
+unfolding little numberOf Bytes
+number-little [] b = refl
+number-little (x ∷ xs) b =
+    let h : (x + numberOf xs * 256) % 256 ≡ x = omega (arith, b .0) in
+    let d : (x + numberOf xs * 256) / 256 ≡ numberOf xs = omega (arith, b .0) in
+    rw (h, d, number-little xs (b .1))
 
 pub bytes-all : (xs : List ℕ) → ((i : ℕ) → getD xs i 0 < 256) → Bytes xs
 unfolding Bytes

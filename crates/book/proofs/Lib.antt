@@ -4,5 +4,5 @@ mod Frames
 mod Entries
 pub mod Pieces
 pub mod Chains
-mod Lookup
+pub mod Lookup
 pub mod Unique

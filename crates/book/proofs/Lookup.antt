@@ -52,7 +52,7 @@ told-before After e = absurd (let z : _≡_ {A = ℕ} 0 1 = cc in omega arith)
 
 module _ (width : ℕ) where
   -- the code of entry j
-  abbrev key : List (List ℕ) → ℕ → List ℕ
+  abbrev pub key : List (List ℕ) → ℕ → List ℕ
   key es j = entryCode width (getD es j [])
 
   follows : (e : List ℕ) (es : List (List ℕ)) → follow width e es ≡ true → (j : ℕ) → j < length es → order (entryCode width e) (key es j) ≡ Before
@@ -82,10 +82,15 @@ module _ (width : ℕ) where
   first (f ∷ es) x (suc m) h e d =
       choose-no _ _ _ _ (apart _ _ (d 0 (omega arith))) (first es x m (omega arith) e (λ j l. d (suc j) (omega arith)))
 
-  none : (es : List (List ℕ)) (x : List ℕ) → ((j : ℕ) → j < length es → key es j ≡ x → ⊥) → [] ≡ entryFor width es x
+  -- an entry of a section is found by its code
+  pub present : (es : List (List ℕ)) (x : List ℕ) (m : ℕ) → ascend width es ≡ true → m < length es → key es m ≡ x → getD es m [] ≡ entryFor width es x
+  present es x m u h k = first es x m h k (λ j l q. unlike _ _ (ascends es u j m l h) (q ∙ sym k))
+
+  -- and a code that no entry has is not found
+  pub absent : (es : List (List ℕ)) (x : List ℕ) → ((j : ℕ) → j < length es → key es j ≡ x → ⊥) → [] ≡ entryFor width es x
   unfolding entryFor
-  none [] x d = refl
-  none (f ∷ es) x d = choose-no _ _ _ _ (apart _ _ (d 0 (omega arith))) (none es x (λ j l. d (suc j) (omega arith)))
+  absent [] x d = refl
+  absent (f ∷ es) x d = choose-no _ _ _ _ (apart _ _ (d 0 (omega arith))) (absent es x (λ j l. d (suc j) (omega arith)))
 
 -- the code of entry j of a section
 abbrev keyAt : List ℕ → Section → ℕ → List ℕ
@@ -146,7 +151,7 @@ module _ {book : List ℕ} {s : Section} {x : List ℕ} {low high : ℕ} (b : Br
 
     pub missed : high ≤ low → [] ≡ entryFor (s .code) (entriesAt book s) x
     missed h =
-        none _ _ _ (λ j l.
+        absent _ _ _ (λ j l.
         ⊎-elim
         (λ (q : low - j ≡ 0). b .above j (omega arith) (omega (arith, entries-length book s)))
         (λ (q : 0 < low - j). b .below j (omega arith))
@@ -162,8 +167,7 @@ module _ {book : List ℕ} {s : Section} {x : List ℕ} {low high : ℕ} (b : Br
       pub hit : r ≡ Same → partAt book s (middle low high) ≡ entryFor (s .code) (entriesAt book s) x
       hit t =
           let k : keyAt book s (middle low high) ≡ x = order-equal _ _ (sym known ∙ t) in
-          part-is book s (middle low high) (inner lt)
-          ∙ first _ _ _ _ (omega (arith, entries-length book s)) k (λ j l q. unlike _ _ (up j _ l (inner lt)) (q ∙ sym k))
+          part-is book s (middle low high) (inner lt) ∙ present _ _ _ _ (sh .ascending) (omega (arith, entries-length book s)) k
 
       pub raised : r ≡ Before → Bracket book s x (middle low high + 1) high
       raised t = record {

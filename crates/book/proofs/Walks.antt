@@ -1,6 +1,6 @@
 -- The walks over a section's entries: what is left decides.
 -- Assumes nothing.
-use mathlib.Core.Path.{_≡_, refl, sym, _∙_}
+use mathlib.Core.Path.{_≡_, refl, sym, ap, _∙_}
 use mathlib.Core.Bool.{Bool, true, false}
 use mathlib.Core.List.{List}
 use Prim.Native.Nat.{ℕ, zero, suc, _+_, _-_, _*_, _≤_, _<_}
@@ -11,14 +11,12 @@ use borrow.Author.Tests.{le-leb, lt-leb}
 use lib.ListN.{length, take, drop, getD, length-drop}
 use lib.Seq.{slice-cons, slice-empty, getD-drop}
 use Rattle.record.specs.declared.Order.{Order}
-use Rattle.record.specs.declared.Order.the-variants.{Before, Same, After}
 use Rattle.record.specs.Choice.{_and_}
 use Rattle.record.specs.Tests.{every}
 use Rattle.record.specs.Ordering.{order}
-use Rattle.record.proofs.Chain.{and-no, and-yes}
 use Rattle.book.specs.declared.Section.{Section}
 use Rattle.book.specs.Book.{entryCode, flagged, isBefore, follow, ascend, cut, entriesAt}
-use Rattle.book.specs.Reading.{flags, soundIn}
+use Rattle.book.specs.Reading.{flags}
 use Rattle.book.proofs.Bytes.{before, next-place, cut-next, cut-none}
 
 -- an entry whose only byte after the code is its flag, and one that has none
@@ -120,14 +118,6 @@ module _ (bs : List ℕ) (s : Section) where
       go (suc zero) k = refl
       go (suc (suc n)) k = absurd (omega (arith, k))
 
-  pub sound-read : (a b : Bool) → a ≡ flags (s .code) (entriesAt bs s) → a ≡ true → b ≡ ascend (s .code) (entriesAt bs s) → b ≡ soundIn bs s
-  unfolding soundIn
-  sound-read a b e t f = and-yes _ _ _ (sym e ∙ t) f
-
-  pub sound-not : (a : Bool) → a ≡ flags (s .code) (entriesAt bs s) → a ≡ false → false ≡ soundIn bs s
-  unfolding soundIn
-  sound-not a e t = and-no _ _ (sym e ∙ t)
-
 -- the order of two entries, as the code takes them out of the book
 module _ (bs : List ℕ) (at entry code : ℕ) (o : Order)
     (e : o ≡ order (entryCode code (take (at + entry - at) (drop at bs))) (entryCode code (take (at + entry + entry - (at + entry)) (drop (at + entry) bs)))) where
@@ -137,14 +127,5 @@ module _ (bs : List ℕ) (at entry code : ℕ) (o : Order)
       let n : at + entry + entry - (at + entry) ≡ entry = omega arith in
       e ∙ rw (m, n)
 
-  pub told-before : o ≡ Before → true ≡ isBefore (order (entryCode code (take entry (drop at bs))) (entryCode code (take entry (drop (at + entry) bs))))
-  unfolding isBefore
-  told-before t = rw (sym told ∙ t)
-
-  pub told-same : o ≡ Same → false ≡ isBefore (order (entryCode code (take entry (drop at bs))) (entryCode code (take entry (drop (at + entry) bs))))
-  unfolding isBefore
-  told-same t = rw (sym told ∙ t)
-
-  pub told-after : o ≡ After → false ≡ isBefore (order (entryCode code (take entry (drop at bs))) (entryCode code (take entry (drop (at + entry) bs))))
-  unfolding isBefore
-  told-after t = rw (sym told ∙ t)
+  pub told-pair : (v : Order) → o ≡ v → isBefore v ≡ isBefore (order (entryCode code (take entry (drop at bs))) (entryCode code (take entry (drop (at + entry) bs))))
+  told-pair v t = ap isBefore (sym t ∙ told)

@@ -29,9 +29,9 @@ pub record Framed (bytes : List ℕ) (s : Section) : Type 0 where
   pub flag : s .entry ≤ s .code + 1
 
 -- the number that little-endian bytes write
-unfoldable pub worth : List ℕ → ℕ
-worth [] = 0
-worth (x ∷ xs) = x + worth xs * 256
+unfoldable pub numberOf : List ℕ → ℕ
+numberOf [] = 0
+numberOf (x ∷ xs) = x + numberOf xs * 256
 
 -- every entry's flag is a flag
 unfoldable pub flags : ℕ → List (List ℕ) → Bool
@@ -61,10 +61,10 @@ bound a b c d e f g = record {
 
 -- the length and the kind that stand at a place
 unfoldable pub sizeAt : List ℕ → ℕ → ℕ
-sizeAt bytes at = worth (take 4 (drop at bytes))
+sizeAt bytes at = numberOf (take 4 (drop at bytes))
 
 unfoldable pub kindAt : List ℕ → ℕ → ℕ
-kindAt bytes at = worth (take 2 (drop (at + 4) bytes))
+kindAt bytes at = numberOf (take 2 (drop (at + 4) bytes))
 
 -- a section's frame: length and kind stand there, and whole entries of that length follow
 unfoldable pub framed : List ℕ → ℕ → Kind → Bool

@@ -2,6 +2,11 @@
 pub mod reading;
 pub mod search;
 
+use record::Line;
+
+// A book is EBCDIC, whatever the file is, and has no place in it.
+const LENT: Line = Line { number: 0 };
+
 // A kind of section: its number, the bytes of a code and the bytes of an entry.
 pub struct Kind {
     pub number: usize,

@@ -1,16 +1,16 @@
 // Whether a book is sound, and where its sections stand: one walk from the front, linear in the book.
 use crate::Book;
 use crate::Kind;
+use crate::LENT;
 use crate::Section;
 use record::Field;
-use record::Line;
 use record::Order;
 ghost use mathlib.Core.Path.{_≡_};
 ghost use Prim.Native.Nat.{_≤_, _<_, _+_};
 ghost use lib.ListN.{length, take, drop};
 ghost use Rattle.book.specs.Book.{entryCode, isBefore, ascend, entriesAt, Opened, nowhere, shut};
 ghost use Rattle.record.specs.Ordering.{order};
-ghost use Rattle.book.specs.Reading.{worth, flags, lost, begun, bound, ended, framed, soundIn, Readable, Kinded, Framed, sectionAt, sectionAfter};
+ghost use Rattle.book.specs.Reading.{numberOf, flags, lost, begun, bound, ended, framed, soundIn, Readable, Kinded, Framed, sectionAt, sectionAfter};
 
 // The kinds of document 01: number, bytes of a code, bytes of an entry.
 const SYSTEMS: Kind = Kind {
@@ -72,7 +72,7 @@ fn wide(x: u8) -> usize
 // The number of two little-endian bytes.
 fn two(book: &[u8], at: usize) -> usize
     requires { ⌜ at + 2 ≤ length (now book) ⌝ }
-    ensures { λ r. ⌜ (r ≡ worth (take 2 (drop at (now (book .entry))))) × (r < 65536) ⌝ }
+    ensures { λ r. ⌜ (r ≡ numberOf (take 2 (drop at (now (book .entry))))) × (r < 65536) ⌝ }
 {
     let low = wide(book[at]);
     let high = wide(book[at + 1]);
@@ -82,7 +82,7 @@ fn two(book: &[u8], at: usize) -> usize
 // The number of four little-endian bytes.
 fn four(book: &[u8], at: usize) -> usize
     requires { ⌜ at + 4 ≤ length (now book) ⌝ }
-    ensures { λ r. ⌜ (r ≡ worth (take 4 (drop at (now (book .entry))))) × (r < 4294967296) ⌝ }
+    ensures { λ r. ⌜ (r ≡ numberOf (take 4 (drop at (now (book .entry))))) × (r < 4294967296) ⌝ }
 {
     let low = two(book, at);
     let high = two(book, at + 2);
@@ -144,14 +144,7 @@ fn is_pair(book: &[u8], at: usize, code: usize, entry: usize) -> bool
         start: 1,
         width: code,
     };
-    match record::fields_order(
-        &book[at..next],
-        Line { number: 0 },
-        field,
-        &book[next..end],
-        Line { number: 0 },
-        field,
-    ) {
+    match record::fields_order(&book[at..next], LENT, field, &book[next..end], LENT, field) {
         Order::Before => true,
         Order::Same => false,
         Order::After => false,

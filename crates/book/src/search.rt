@@ -1,4 +1,5 @@
 // Lookup by binary search: the entry is handed back as a part of the book.
+use crate::LENT;
 use crate::Section;
 use record::Field;
 use record::Line;
@@ -24,7 +25,7 @@ pub fn find<'a>(book: &'a [u8], section: Section, rec: &[u8], line: Line, field:
         let middle = low + (high - low) / 2;
         let at = start + middle * entry;
         let end = at + entry;
-        match record::fields_order(&book[at..end], Line { number: 0 }, code, rec, line, field) {
+        match record::fields_order(&book[at..end], LENT, code, rec, line, field) {
             Order::Before => {
                 low = middle + 1;
             }

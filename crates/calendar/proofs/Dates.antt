@@ -42,19 +42,6 @@ module _ (xs : List ℕ) (r b : Bool) (y m d : ℕ) (t : r ≡ true) (f : b ≡ 
   unfolding plainDate
   plain-read e p q s = and-yes _ _ _ (sym e ∙ t) (f ∙ rw (p, q, s))
 
-module _ (xs : List ℕ) (r : Bool) (t : r ≡ false) where
-  pub dashed-not : r ≡ dashes xs → false ≡ dashedDate xs
-  unfolding dashedDate
-  dashed-not e = and-no _ _ (sym e ∙ t)
-
-  pub plain-not : r ≡ digits xs → false ≡ plainDate xs
-  unfolding plainDate
-  plain-not e = and-no _ _ (sym e ∙ t)
-
-  pub month-not : r ≡ digits xs → false ≡ monthYear xs
-  unfolding monthYear
-  month-not e = and-no _ _ (sym e ∙ t)
-
 -- the month that was read decides
 module _ (xs : List ℕ) (r : Bool) (m : ℕ) (e : r ≡ digits xs) (t : r ≡ true) (p : m ≡ numeral (slice 0 2 xs)) where
   pub month-zero : m < 1 → false ≡ monthYear xs

@@ -10,7 +10,7 @@ use Rattle.record.specs.Choice.{_and_, _or_}
 use Rattle.record.specs.Tests.{digits}
 use Rattle.record.specs.Numeral.{numeral}
 use Rattle.record.specs.Routing.{prefixListed, routing}
-use Rattle.record.proofs.Chain.{and-no, and-yes}
+use Rattle.record.proofs.Chain.{and-yes}
 use lib.ListN.{take}
 
 module _ (n : ℕ) where
@@ -45,11 +45,6 @@ module _ (n : ℕ) where
       (lt-leb n 12 (omega arith), le-leb 21 n (omega arith), lt-leb n 32 (omega arith), le-leb 61 n (omega arith), lt-leb n 72 (omega arith), ne-eqb n 80 k)
 
 -- a field of digits, of which the first two were read
-module _ (xs : List ℕ) (r : Bool) (n : ℕ) (e : r ≡ digits xs) where
-  pub routing-read : (t : Bool) → r ≡ true → n ≡ numeral (take 2 xs) → t ≡ prefixListed n → t ≡ routing xs
-  unfolding routing
-  routing-read t h k l = and-yes _ _ _ (sym e ∙ h) (l ∙ ap prefixListed k)
-
-  pub routing-not : r ≡ false → false ≡ routing xs
-  unfolding routing
-  routing-not h = and-no _ _ (sym e ∙ h)
+pub routing-read : (xs : List ℕ) (r t : Bool) (n : ℕ) → r ≡ digits xs → r ≡ true → n ≡ numeral (take 2 xs) → t ≡ prefixListed n → t ≡ routing xs
+unfolding routing
+routing-read xs r t n e h k l = and-yes _ _ _ (sym e ∙ h) (l ∙ ap prefixListed k)

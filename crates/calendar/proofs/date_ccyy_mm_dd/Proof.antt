@@ -1,4 +1,6 @@
-use Rattle.calendar.proofs.Dates.{year-digits, month-digits, day-digits, dashed-read, dashed-not}
+use Rattle.record.proofs.Chain.{and-no, told}
+use Rattle.calendar.specs.Calendar.{dashedDate}
+use Rattle.calendar.proofs.Dates.{year-digits, month-digits, day-digits, dashed-read}
 use borrow.Author.Needs.{needs}
 use Rattle.calendar.proofs.date_ccyy_mm_dd.Statement.{statement}
 use Rattle.calendar.proofs.date_ccyy_mm_dd.Tie as tie
@@ -22,7 +24,8 @@ returns : tie.Need-returns
 returns c = search (needs, dashed-read)
 
 returns-2 : tie.Need-returns-2
-returns-2 c = search (needs, dashed-not)
+unfolding dashedDate
+returns-2 c = and-no _ _ (search told)
 
 pub date-ccyy-mm-dd-spec : {M : Type 1} → statement M
 date-ccyy-mm-dd-spec =

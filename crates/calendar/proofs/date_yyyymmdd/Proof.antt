@@ -1,5 +1,7 @@
+use Rattle.record.proofs.Chain.{and-no, told}
+use Rattle.calendar.specs.Calendar.{plainDate}
 use Rattle.record.proofs.Every.{digits-part}
-use Rattle.calendar.proofs.Dates.{plain-read, plain-not}
+use Rattle.calendar.proofs.Dates.{plain-read}
 use borrow.Author.Needs.{needs}
 use Rattle.calendar.proofs.date_yyyymmdd.Statement.{statement}
 use Rattle.calendar.proofs.date_yyyymmdd.Tie as tie
@@ -23,7 +25,8 @@ returns : tie.Need-returns
 returns c = search (needs, plain-read)
 
 returns-2 : tie.Need-returns-2
-returns-2 c = search (needs, plain-not)
+unfolding plainDate
+returns-2 c = and-no _ _ (search told)
 
 pub date-yyyymmdd-spec : {M : Type 1} → statement M
 date-yyyymmdd-spec =

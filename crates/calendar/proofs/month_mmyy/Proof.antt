@@ -1,5 +1,7 @@
+use Rattle.record.proofs.Chain.{and-no, told}
+use Rattle.calendar.specs.Calendar.{monthYear}
 use Rattle.record.proofs.Every.{digits-part}
-use Rattle.calendar.proofs.Dates.{month-not, month-zero, month-read}
+use Rattle.calendar.proofs.Dates.{month-zero, month-read}
 use borrow.Author.Needs.{needs}
 use Rattle.calendar.proofs.month_mmyy.Statement.{statement}
 use Rattle.calendar.proofs.month_mmyy.Tie as tie
@@ -17,7 +19,8 @@ returns-2 : tie.Need-returns-2
 returns-2 c = search (needs, month-read)
 
 returns-3 : tie.Need-returns-3
-returns-3 c = search (needs, month-not)
+unfolding monthYear
+returns-3 c = and-no _ _ (search told)
 
 pub month-mmyy-spec : {M : Type 1} → statement M
 month-mmyy-spec =

@@ -1,5 +1,6 @@
-use Rattle.book.specs.Book.{entryCode}
-use Rattle.book.proofs.Walks.{told-before, told-same, told-after}
+use Rattle.record.specs.declared.Order.the-variants.{Before, Same, After}
+use Rattle.book.specs.Book.{entryCode, isBefore}
+use Rattle.book.proofs.Walks.{told-pair}
 use borrow.Author.Needs.{needs}
 use Rattle.book.proofs.reading.is_pair.Statement.{statement}
 use Rattle.book.proofs.reading.is_pair.Tie as tie
@@ -41,16 +42,16 @@ enum-told-3 : tie.Need-enum-told-3
 enum-told-3 c = search needs
 
 returns : tie.Need-returns
-unfolding entryCode
-returns c = search (needs, told-before)
+unfolding entryCode isBefore
+returns c = let a = c .before .before .before .before .before .before .args in told-pair (a .book .now) (a .at) (a .entry) (a .code) _ (c .before .before .fields-order .ensures) Before (search needs)
 
 returns-2 : tie.Need-returns-2
-unfolding entryCode
-returns-2 c = search (needs, told-same)
+unfolding entryCode isBefore
+returns-2 c = let a = c .before .before .before .before .before .before .args in told-pair (a .book .now) (a .at) (a .entry) (a .code) _ (c .before .before .fields-order .ensures) Same (search needs)
 
 returns-3 : tie.Need-returns-3
-unfolding entryCode
-returns-3 c = search (needs, told-after)
+unfolding entryCode isBefore
+returns-3 c = let a = c .before .before .before .before .before .before .args in told-pair (a .book .now) (a .at) (a .entry) (a .code) _ (c .before .before .fields-order .ensures) After (search needs)
 
 pub is-pair-spec : {M : Type 1} → statement M
 is-pair-spec =

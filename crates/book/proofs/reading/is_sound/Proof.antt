@@ -1,4 +1,5 @@
-use Rattle.book.proofs.Walks.{sound-read, sound-not}
+use Rattle.record.proofs.Chain.{and-no, and-yes, told}
+use Rattle.book.specs.Reading.{soundIn}
 use borrow.Author.Needs.{needs}
 use Rattle.book.proofs.reading.is_sound.Statement.{statement}
 use Rattle.book.proofs.reading.is_sound.Tie as tie
@@ -10,10 +11,12 @@ does-ascend-requires : tie.Need-does-ascend-requires
 does-ascend-requires c κs = search needs
 
 returns : tie.Need-returns
-returns c = search (needs, sound-read)
+unfolding soundIn
+returns c = and-yes _ _ _ (search told) (search needs)
 
 returns-2 : tie.Need-returns-2
-returns-2 c = search (needs, sound-not)
+unfolding soundIn
+returns-2 c = and-no _ _ (search told)
 
 pub is-sound-spec : {M : Type 1} → statement M
 is-sound-spec = tie.close (tie.spec has-flags-requires does-ascend-requires returns returns-2)

@@ -1,4 +1,4 @@
-use Rattle.book.proofs.Bytes.{worth-two}
+use Rattle.book.proofs.Bytes.{number-two}
 use borrow.Author.Needs.{needs}
 use Rattle.book.proofs.reading.two.Statement.{statement}
 use Rattle.book.proofs.reading.two.Tie as tie
@@ -25,7 +25,7 @@ add-result : tie.Need-add-result
 add-result c = search needs
 
 returns : tie.Need-returns
-returns c = (search (needs, worth-two), search needs)
+returns c = (search (needs, number-two), search needs)
 
 pub two-spec : {M : Type 1} → statement M
 two-spec =

@@ -1,5 +1,7 @@
+use Rattle.record.specs.Routing.{routing}
+use Rattle.record.proofs.Chain.{and-no, told}
 use Rattle.record.proofs.Every.{digits-part}
-use Rattle.record.proofs.Prefix.{routing-read, routing-not}
+use Rattle.record.proofs.Prefix.{routing-read}
 use borrow.Author.Needs.{needs}
 use Rattle.record.proofs.routing.field_routing.Statement.{statement}
 use Rattle.record.proofs.routing.field_routing.Tie as tie
@@ -17,7 +19,8 @@ returns : tie.Need-returns
 returns c = search (needs, routing-read)
 
 returns-2 : tie.Need-returns-2
-returns-2 c = search (needs, routing-not)
+unfolding routing
+returns-2 c = and-no _ _ (search told)
 
 pub field-routing-spec : {M : Type 1} → statement M
 field-routing-spec =
