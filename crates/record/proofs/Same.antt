@@ -49,15 +49,15 @@ unfolding Both
 both-none xs ys = refl
 
 module _ (xs ys : List ℕ) (i : ℕ) (nx : i < length xs) (ny : i < length ys) where
-  both-next : getD xs i 0 ≡ getD ys i 0 → Both xs ys i → Both xs ys (i + 1)
+  pub both-next : getD xs i 0 ≡ getD ys i 0 → Both xs ys i → Both xs ys (i + 1)
   unfolding Both alike _and_
   both-next t l = l ∙ rw (add-one, drop-cons xs i 0, drop-cons ys i 0, eq-eqb (getD xs i 0) (getD ys i 0) t)
 
-  both-stop : (getD xs i 0 ≡ getD ys i 0 → ⊥) → Both xs ys i → false ≡ alike xs ys
+  pub both-stop : (getD xs i 0 ≡ getD ys i 0 → ⊥) → Both xs ys i → false ≡ alike xs ys
   unfolding Both alike _and_
   both-stop t l = sym (l ∙ rw (drop-cons xs i 0, drop-cons ys i 0, ne-eqb (getD xs i 0) (getD ys i 0) t))
 
-both-end : (xs ys : List ℕ) (i : ℕ) → length xs ≤ i → length ys ≤ i → Both xs ys i → true ≡ alike xs ys
+pub both-end : (xs ys : List ℕ) (i : ℕ) → length xs ≤ i → length ys ≤ i → Both xs ys i → true ≡ alike xs ys
 unfolding Both alike
 both-end xs ys i hx hy l = sym (l ∙ rw (drop-of-length-le xs, drop-of-length-le ys))
 

@@ -1,0 +1,33 @@
+-- A Payment ID copied, and compared, byte by byte: one byte more, and the whole.
+-- Assumes nothing.
+use mathlib.Core.Path.{_≡_, sym, _∙_}
+use mathlib.Core.Bool.{true, false}
+use mathlib.Core.List.{List}
+use Prim.Native.Nat.{ℕ, _+_, _<_, _≤_}
+use native.Mathlib.Numerals.{add-one}
+use native.Mathlib.Omega.{arith}
+use lib.ListN.{length, take, getD, set}
+use lib.Seq.{take-suc-set, take-suc, take-all}
+use Rattle.record.specs.Tests.{alike}
+use Rattle.record.proofs.Same.{Both, both-next, both-stop, both-end}
+
+pub copy-more : (xs ys : List ℕ) (i n y : ℕ) → length xs ≡ n → length ys ≡ n → i < n → y ≡ getD ys i 0 → take i xs ≡ take i ys
+    → take (i + 1) (set xs i y) ≡ take (i + 1) ys
+copy-more xs ys i n y k l h g e =
+    let a : i < length xs = omega arith in
+    let b : i < length ys = omega arith in
+    rw (add-one, take-suc-set, take-suc ys i 0, g, e)
+
+pub copy-whole : (xs ys : List ℕ) (i n : ℕ) → length xs ≡ n → length ys ≡ n → n ≤ i → take i xs ≡ take i ys → xs ≡ ys
+copy-whole xs ys i n k l h e = sym (take-all i xs (omega arith)) ∙ e ∙ take-all i ys (omega arith)
+
+-- compared byte by byte: the bytes from `at` on decide
+module _ (xs ys : List ℕ) (at n x : ℕ) (k : length xs ≡ n) (l : length ys ≡ n) (e : x ≡ getD xs at 0) (b : Both xs ys at) where
+  pub same-more : at < n → x ≡ getD ys at 0 → Both xs ys (at + 1)
+  same-more h t = both-next xs ys at (omega arith) (omega arith) (sym e ∙ t) b
+
+  pub same-stop : at < n → (x ≡ getD ys at 0 → ⊥) → false ≡ alike xs ys
+  same-stop h t = both-stop xs ys at (omega arith) (omega arith) (λ q. t (e ∙ q)) b
+
+pub same-whole : (xs ys : List ℕ) (at n : ℕ) → length xs ≡ n → length ys ≡ n → n ≤ at → Both xs ys at → true ≡ alike xs ys
+same-whole xs ys at n k l h b = both-end xs ys at (omega arith) (omega arith) b

@@ -1,0 +1,4 @@
+pub mod Division
+pub mod Records
+pub mod Promise
+pub mod Reader
