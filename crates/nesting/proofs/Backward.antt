@@ -18,7 +18,7 @@ use Rattle.nesting.specs.declared.reader.State.{State}
 use Rattle.nesting.specs.Division.{Record, All, IsCheck, NoCheck, batchCode, paymentId, Payment, Batch, paymentsOnto, batchesOnto, LegalPayment}
 use Rattle.nesting.specs.Reader.{isCheck, moved, inBatch, inPayment, taken, next, after}
 use Rattle.nesting.proofs.Coding.{of-bytes, lettered, Beside, beside}
-use Rattle.nesting.proofs.Rest.{Tail, Batched, Whole, RestAt, Rest, at}
+use Rattle.nesting.proofs.Rest.{Tail, Batched, Unopened, RestAt, Rest, at}
 use Rattle.nesting.proofs.Steps.{Complete, Moves}
 use Rattle.nesting.proofs.Steps.Moves.{opens-file, first-batch, next-batch, first-payment, next-payment, party, account, procurement, closes-batch, closes-file}
 use Rattle.nesting.proofs.Forward.{after-is}
@@ -61,7 +61,7 @@ module _ (s : State) (B P : ℕ) (rs : List Record) where
   turned c q r rest w k e m h =
       record { first = r; rest = rest; whole = w; moves = m; left = rw (after-is s r c k) (at (next s c (held r paymentId)) B P rest q e h) }
 
-  file-turn : s .place ≡ Start → Whole (s .batches) (s .payments) B P rs → Turned s B P rs
+  file-turn : s .place ≡ Start → Unopened (s .batches) (s .payments) B P rs → Turned s B P rs
   unfolding codeBytes next moved
   file-turn e w =
       let d = w .division in

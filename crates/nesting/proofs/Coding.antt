@@ -11,42 +11,19 @@ use Rattle.record.specs.declared.codes.Letter.{Letter}
 use Rattle.record.specs.declared.codes.Letter.the-variants.{N, C, W, I, A}
 use Rattle.record.specs.declared.codes.Code.{Code}
 use Rattle.record.specs.declared.codes.Code.the-variants.{FileHeader, Batch, Detail, Party, Account, Procurement, BatchTrailer, FileTrailer, Unknown}
-use Rattle.record.specs.Choice.{_and_, choose}
-use Rattle.record.specs.Tests.{alike}
 use Rattle.record.specs.Value.{held}
 use Rattle.record.specs.Codes.{letterByte, codeBytes, codeIn, codes, codeOf, recordCode}
-use Rattle.record.proofs.CodeList.{code-bytes}
+use Rattle.record.proofs.CodeList.{codes-apart, code-bytes}
 use Rattle.nesting.specs.declared.reader.Place.{Place}
 use Rattle.nesting.specs.declared.reader.Place.the-variants.{Start, FileOpen, BatchOpen, PaymentOpen, BatchClosed, FileClosed}
 use Rattle.nesting.specs.declared.reader.State.{State}
 use Rattle.nesting.specs.Division.{Record, All, Coded, Among, letters, BC, batchCode}
 use Rattle.nesting.specs.Reader.{placeNumber, isAt, sameLetter, isCheck}
 
--- each code is the one that its own bytes give
-own-code : (c : Code) → codeIn codes (codeBytes c) ≡ c
-unfolding codeIn codeBytes letterByte alike choose _and_
-own-code FileHeader = refl
-own-code (Batch N) = refl
-own-code (Batch C) = refl
-own-code (Batch W) = refl
-own-code (Batch I) = refl
-own-code (Batch A) = refl
-own-code (Detail N) = refl
-own-code (Detail C) = refl
-own-code (Detail W) = refl
-own-code (Detail I) = refl
-own-code (Detail A) = refl
-own-code Party = refl
-own-code Account = refl
-own-code Procurement = refl
-own-code BatchTrailer = refl
-own-code FileTrailer = refl
-own-code Unknown = refl
-
 -- a record with the bytes of a code has the code
 pub of-bytes : (c : Code) (r : Record) → Coded (codeBytes c) r → codeOf r ≡ c
 unfolding codeOf
-of-bytes c r e = ap (codeIn codes) e ∙ own-code c
+of-bytes c r e = ap (codeIn codes) e ∙ codes-apart c
 
 -- one of the sixteen codes
 abbrev pub known : Code → Bool
@@ -124,7 +101,7 @@ pub same-letter : (l m : Letter) → sameLetter l m ≡ true → l ≡ m
 unfolding sameLetter codeBytes letterIn
 same-letter l m e =
     let h : codeBytes (Batch l) ≡ codeBytes (Batch m) = ap batchCode (eqb-true (letterByte l) (letterByte m) e) in
-    ap letterIn (sym (own-code (Batch l)) ∙ ap (codeIn codes) h ∙ own-code (Batch m))
+    ap letterIn (sym (codes-apart (Batch l)) ∙ ap (codeIn codes) h ∙ codes-apart (Batch m))
 
 -- a batch of a check letter is a check batch, and no other is
 abbrev pub Beside : Bool → Record → Type 0

@@ -42,7 +42,7 @@ examples =
 pub sample : List Code → List Record
 sample codes = map (λ (c : Code). made (codeBytes c) (replicate 20 0x40)) codes
 
-pub Right : Example → Type 0
+abbrev pub Right : Example → Type 0
 Right e = Nested (sample (e .codes)) (e .answer)
 
 allKnown : List Code → Bool
@@ -74,7 +74,6 @@ worked = (
 )
 
 all-right : (es : List Example) → All Worked es → All Right es
-unfolding Right
 all-right [] ws = tt
 all-right (e ∷ es) ws =
     (subst (Nested (sample (e .codes))) (ws .0 .answer) (answer (sample (e .codes)) (sample-whole (e .codes) (ws .0 .codes))), all-right es (ws .1))

@@ -19,7 +19,7 @@ use Rattle.nesting.specs.declared.reader.State.{State}
 use Rattle.nesting.specs.Division.{Record, All, IsCheck, NoCheck, paymentId, Batch}
 use Rattle.nesting.specs.Reader.{isCheck, moved, inBatch, inPayment, taken, next, after}
 use Rattle.nesting.proofs.Coding.{to-bytes, listed, Beside, beside}
-use Rattle.nesting.proofs.Rest.{Tail, Batched, Paying, Begun, Opened, Whole, Ended, RestAt, Rest, at, from}
+use Rattle.nesting.proofs.Rest.{Tail, Batched, Paying, Begun, Opened, Unopened, Ended, RestAt, Rest, at, from}
 use Rattle.nesting.proofs.Steps.{Moves}
 use Rattle.nesting.proofs.Steps.Moves.{opens-file, first-batch, next-batch, first-payment, next-payment, party, account, procurement, closes-batch, closes-file}
 
@@ -125,7 +125,7 @@ module _ (r : Record) (rs : List Record) (b p B P : ℕ) where
   unfolding one-more-batch
   opened-batch l k h = record { check = isCheck l; tail = one-more-batch l (isCheck l) refl k h; some = omega arith }
 
-  opened-file : codeOf r ≡ FileHeader → Opened b p B P rs → Whole b p B P (r ∷ rs)
+  opened-file : codeOf r ≡ FileHeader → Opened b p B P rs → Unopened b p B P (r ∷ rs)
   unfolding codeBytes
   opened-file k h =
       let w = h .tail in

@@ -1,17 +1,17 @@
 pub mod Coding
 pub mod Wholes
 pub mod Cuts
-pub mod Rest
-pub mod Steps
-pub mod Forward
-pub mod Backward
-pub mod Live
-pub mod Answer
+mod Rest
+mod Steps
+mod Forward
+mod Backward
+mod Live
+mod Answer
 pub mod OneDivision
 pub mod Theorems
-pub mod Examples
-pub mod Unique
 pub mod Parts
+pub mod Examples
 mod Ids
-mod Moves
+mod Arms
 mod Turns
+pub mod Unique

@@ -63,8 +63,8 @@ pub record Opened (b p B P : ℕ) (rs : List Record) : Type 0 where
   pub tail : Tail check b p B P rs
   pub some : 1 ≤ length (tail .batches)
 
--- a whole division
-pub record Whole (b p B P : ℕ) (rs : List Record) : Type 0 where
+-- nothing has been read: a whole division
+pub record Unopened (b p B P : ℕ) (rs : List Record) : Type 0 where
   pub division : Division
   pub divides : DivisionOf rs division
   pub counted : B ≡ b + length (division .batches)
@@ -78,7 +78,7 @@ pub record Ended (b p B P : ℕ) (rs : List Record) : Type 0 where
 
 -- by the place
 abbrev pub RestAt : Place → State → ℕ → ℕ → List Record → Type 0
-RestAt Start s B P rs = Whole (s .batches) (s .payments) B P rs
+RestAt Start s B P rs = Unopened (s .batches) (s .payments) B P rs
 RestAt FileOpen s B P rs = Opened (s .batches) (s .payments) B P rs
 RestAt BatchOpen s B P rs = Begun (s .letter) (s .batches) (s .payments) B P rs
 RestAt PaymentOpen s B P rs = Paying (s .letter) (s .id) (s .party) (s .accounts) (s .procurements) (s .batches) (s .payments) B P rs

@@ -1,5 +1,5 @@
 use native.Mathlib.Omega.{arith}
-use Rattle.nesting.proofs.Moves.{coded, account-room, procurement-room}
+use Rattle.nesting.proofs.Arms.{coded, account-room, procurement-room}
 use Rattle.nesting.specs.Reader.{next}
 use borrow.Author.Needs.{needs}
 use Rattle.nesting.proofs.reader.after.Statement.{statement}

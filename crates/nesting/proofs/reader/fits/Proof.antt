@@ -1,5 +1,5 @@
 use Rattle.record.proofs.Chain.{and-yes, and-no, told}
-use Rattle.nesting.proofs.Moves.{coded}
+use Rattle.nesting.proofs.Arms.{coded}
 use Rattle.nesting.specs.Reader.{fits}
 use borrow.Author.Needs.{needs}
 use Rattle.nesting.proofs.reader.fits.Statement.{statement}

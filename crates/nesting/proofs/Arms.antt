@@ -1,4 +1,4 @@
--- What a known code says of the moves: whether its record may come next, the state after it, and the room that it has.
+-- What a known code says in an arm of a match: whether its record may come next, the state after it, and the room that it has.
 -- Assumes nothing.
 use mathlib.Core.Path.{_≡_, sym, ap, _∙_}
 use mathlib.Core.Bool.{true}
