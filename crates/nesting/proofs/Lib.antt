@@ -11,7 +11,6 @@ pub mod OneDivision
 pub mod Theorems
 pub mod Parts
 pub mod Examples
-mod Ids
 mod Arms
 mod Turns
 pub mod Unique

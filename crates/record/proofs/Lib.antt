@@ -2,6 +2,7 @@ pub mod Chain
 pub mod Held
 pub mod Every
 pub mod Same
+pub mod Copies
 pub mod Numbers
 pub mod Orders
 pub mod Table

@@ -49,15 +49,15 @@ unfolding Both
 both-none xs ys = refl
 
 module _ (xs ys : List ℕ) (i : ℕ) (nx : i < length xs) (ny : i < length ys) where
-  pub both-next : getD xs i 0 ≡ getD ys i 0 → Both xs ys i → Both xs ys (i + 1)
+  both-next : getD xs i 0 ≡ getD ys i 0 → Both xs ys i → Both xs ys (i + 1)
   unfolding Both alike _and_
   both-next t l = l ∙ rw (add-one, drop-cons xs i 0, drop-cons ys i 0, eq-eqb (getD xs i 0) (getD ys i 0) t)
 
-  pub both-stop : (getD xs i 0 ≡ getD ys i 0 → ⊥) → Both xs ys i → false ≡ alike xs ys
+  both-stop : (getD xs i 0 ≡ getD ys i 0 → ⊥) → Both xs ys i → false ≡ alike xs ys
   unfolding Both alike _and_
   both-stop t l = sym (l ∙ rw (drop-cons xs i 0, drop-cons ys i 0, ne-eqb (getD xs i 0) (getD ys i 0) t))
 
-pub both-end : (xs ys : List ℕ) (i : ℕ) → length xs ≤ i → length ys ≤ i → Both xs ys i → true ≡ alike xs ys
+both-end : (xs ys : List ℕ) (i : ℕ) → length xs ≤ i → length ys ≤ i → Both xs ys i → true ≡ alike xs ys
 unfolding Both alike
 both-end xs ys i hx hy l = sym (l ∙ rw (drop-of-length-le xs, drop-of-length-le ys))
 
@@ -75,3 +75,14 @@ module _ (rec : List ℕ) (p : Place) (ys : List ℕ) (i : ℕ) (w : Within rec 
 
   pub text-end : length ys ≡ p .width → p .width ≤ i → Both (value rec p) ys i → true ≡ alike (value rec p) ys
   text-end n h l = both-end (value rec p) ys i (omega (arith, value-length rec p w)) (omega arith) l
+
+-- two lists of one length, byte by byte, of which x was read at i in the first
+module _ (xs ys : List ℕ) (i n x : ℕ) (k : length xs ≡ n) (l : length ys ≡ n) (e : x ≡ getD xs i 0) (b : Both xs ys i) where
+  pub same-more : i < n → x ≡ getD ys i 0 → Both xs ys (i + 1)
+  same-more h t = both-next xs ys i (omega arith) (omega arith) (sym e ∙ t) b
+
+  pub same-stop : i < n → (x ≡ getD ys i 0 → ⊥) → false ≡ alike xs ys
+  same-stop h t = both-stop xs ys i (omega arith) (omega arith) (λ q. t (e ∙ q)) b
+
+pub same-whole : (xs ys : List ℕ) (i n : ℕ) → length xs ≡ n → length ys ≡ n → n ≤ i → Both xs ys i → true ≡ alike xs ys
+same-whole xs ys i n k l h b = both-end xs ys i (omega arith) (omega arith) b

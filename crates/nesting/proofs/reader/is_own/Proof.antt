@@ -5,10 +5,9 @@ use mathlib.Core.Path.{_≡_}
 use lib.ListN.{length}
 use Rattle.record.specs.Value.{held, seen}
 use Rattle.record.proofs.Held.{held-length}
-use Rattle.record.proofs.Same.{Both, both-none}
+use Rattle.record.proofs.Same.{Both, both-none, same-more, same-stop, same-whole}
 use Rattle.nesting.specs.Division.{paymentId}
 use Rattle.nesting.specs.Reader.{owns}
-use Rattle.nesting.proofs.Ids.{same-more, same-stop, same-whole}
 use borrow.Author.Needs.{needs}
 
 abbrev Inv-loop : tie.InvT-loop

@@ -4,7 +4,7 @@ use lib.ListN.{length, take}
 use Rattle.record.specs.Value.{held, seen}
 use Rattle.record.proofs.Held.{held-length}
 use Rattle.nesting.specs.Division.{paymentId}
-use Rattle.nesting.proofs.Ids.{copy-more, copy-whole}
+use Rattle.record.proofs.Copies.{copy-more, copy-whole}
 use borrow.Author.Needs.{needs}
 use Rattle.nesting.proofs.reader.payment_id.Statement.{statement}
 use Rattle.nesting.proofs.reader.payment_id.Tie as tie

@@ -1,0 +1,179 @@
+-- What the tests of a field say, as a search uses them.
+-- Assumes nothing.
+use mathlib.Core.Path.{_≡_, refl, sym, ap, _∙_}
+use mathlib.Core.Bool.{Bool, true, false}
+use mathlib.Core.List.{List, [], _∷_, _++_}
+use Prim.Native.Nat.{ℕ, suc, _+_, _-_, _<_, _≤_}
+use native.Mathlib.Numerals.{add-one}
+use native.Mathlib.Omega.{arith}
+use lib.Dec.{eqb, leb, ltb}
+use borrow.Author.Tests.{lt-leb, le-leb, eq-eqb, ne-eqb}
+use lib.ListN.{length, drop, getD, replicate, drop-of-length-le, length-append, length-replicate, List·getD-append, getD-replicate}
+use lib.Seq.{drop-cons, getD-append-add}
+use Rattle.record.specs.Choice.{_and_, _or_, choose}
+use Rattle.record.specs.Tests.{every, alike}
+use Rattle.money.specs.declared.Amount.{Amount}
+use Rattle.money.specs.Money.{worth, split, Whole}
+use Rattle.money.proofs.Amounts.{worth-split}
+use Rattle.book.specs.declared.Book.{Book}
+use Rattle.book.specs.declared.Section.{Section}
+use Rattle.book.specs.Book.{Shelved, Usable}
+use Rattle.reasons.specs.declared.Finding.{Finding}
+use Rattle.reasons.specs.declared.lookups.Shelf.{Shelf}
+use Rattle.reasons.specs.declared.lookups.Shelf.the-variants.{Locations, Betcs, Types, States, Countries, Currencies}
+use Rattle.reasons.specs.Findings.{noted}
+use Rattle.reasons.specs.Lists.{oneOf}
+use Rattle.reasons.specs.Reasons.{shelf, isNone, symbolAndSerial}
+
+-- what is known of a thing is known of what it equals
+pub known : {A B : Type 0} (f : A → B) (x y : A) (r : B) → x ≡ y → r ≡ f y → r ≡ f x
+known f x y r e h = h ∙ ap f (sym e)
+
+-- a value in a list of values
+pub one-here : (x : List ℕ) (xs : List (List ℕ)) (v : List ℕ) → alike v x ≡ true → oneOf (x ∷ xs) v ≡ true
+unfolding oneOf _or_
+one-here x xs v e = rw e
+
+pub one-later : (x : List ℕ) (xs : List (List ℕ)) (v : List ℕ) → alike v x ≡ false → oneOf xs v ≡ true → oneOf (x ∷ xs) v ≡ true
+unfolding oneOf _or_
+one-later x xs v e h = rw e h
+
+pub one-none : (x : List ℕ) (xs : List (List ℕ)) (v : List ℕ) → alike v x ≡ false → oneOf xs v ≡ false → oneOf (x ∷ xs) v ≡ false
+unfolding oneOf _or_
+one-none x xs v e h = rw e h
+
+pub one-empty : (v : List ℕ) → oneOf [] v ≡ false
+unfolding oneOf
+one-empty v = refl
+
+pub one-rest : (x : List ℕ) (xs : List (List ℕ)) (v : List ℕ) (r : Bool) → alike v x ≡ false → r ≡ oneOf xs v → r ≡ oneOf (x ∷ xs) v
+unfolding oneOf _or_
+one-rest x xs v r e h = rw e h
+
+pub ruleset ones = (one-here, one-later, one-none, one-empty)
+
+-- an amount beside another
+module _ (r u : Bool) (a : Amount) (n : ℕ) (e : a ≡ split n) (t : r ≡ u) where
+  worth-is : worth a ≡ n
+  worth-is = ap worth e ∙ worth-split n
+
+  pub above : (k : ℕ) → r ≡ ltb (worth (record { high = 0; low = k })) (worth a) → ltb k n ≡ u
+  unfolding worth
+  above k h =
+      let w : worth (record { high = 0; low = k }) ≡ k = omega arith in
+      sym (rw (w, worth-is) at h) ∙ t
+
+  pub equals : (s : Amount) → r ≡ eqb (worth a) (worth s) → eqb n (worth s) ≡ u
+  equals s h = sym (rw worth-is at h) ∙ t
+
+pub whole-low : (k : ℕ) → k < 10000000000 → Whole (record { high = 0; low = k })
+unfolding Whole
+whole-low k h = h
+
+-- a number that was read, in a range or equal to another
+module _ (x n : ℕ) (e : x ≡ n) where
+  pub range-low : (a b : ℕ) → x < a → (leb a n and leb n b) ≡ false
+  unfolding _and_
+  range-low a b h = rw (← e, lt-leb a x h)
+
+  pub range-in : (a b : ℕ) → a ≤ x → x ≤ b → (leb a n and leb n b) ≡ true
+  unfolding _and_
+  range-in a b h k = rw (← e, le-leb a x h, le-leb x b k)
+
+  pub range-high : (a b : ℕ) → a ≤ x → b < x → (leb a n and leb n b) ≡ false
+  unfolding _and_
+  range-high a b h k = rw (← e, le-leb a x h, lt-leb x b k)
+
+-- one finding more
+module _ (f x : Finding) where
+  pub note-old : (f .reason ≡ 0 → ⊥) → f ≡ noted f x
+  unfolding noted choose
+  note-old h = rw (ne-eqb (f .reason) 0 h)
+
+  pub note-sound : f .reason ≡ 0 → x .reason ≡ 0 → f ≡ noted f x
+  unfolding noted choose
+  note-sound h k = rw (eq-eqb (f .reason) 0 h, eq-eqb (x .reason) 0 k)
+
+  pub note-new : f .reason ≡ 0 → (x .reason ≡ 0 → ⊥) → x ≡ noted f x
+  unfolding noted choose
+  note-new h k = rw (eq-eqb (f .reason) 0 h, ne-eqb (x .reason) 0 k)
+
+-- an entry that was found has bytes
+pub none-is : (e x : List ℕ) → e ≡ x → eqb (length e) 0 ≡ isNone x
+unfolding isNone
+none-is e x h = rw h (go x)
+  where
+    go : (y : List ℕ) → eqb (length y) 0 ≡ isNone y
+    go [] = refl
+    go (z ∷ y) = ne-eqb (suc (length y)) 0 (λ h. omega arith)
+
+-- every kind can be looked up in
+pub shelved : (bytes : List ℕ) (b : Book) (k : Shelf) (s : Section) → Usable bytes b → s ≡ shelf b k → Shelved bytes s
+unfolding shelf
+shelved bytes b k s u e = rw e (go k)
+  where
+    go : (j : Shelf) → Shelved bytes (shelf b j)
+    go Locations = u .locations
+    go Betcs = u .betcs
+    go Types = u .types
+    go States = u .states
+    go Countries = u .countries
+    go Currencies = u .currencies
+
+-- a test of every byte, from the front: what is left decides
+unfoldable pub Left : (ℕ → Bool) → List ℕ → ℕ → Type 0
+Left q xs i = every q xs ≡ every q (drop i xs)
+
+pub left-none : (q : ℕ → Bool) (xs : List ℕ) → Left q xs 0
+unfolding Left
+left-none q xs = refl
+
+module _ (q : ℕ → Bool) (xs : List ℕ) (i n x : ℕ) (k : length xs ≡ n) (h : i < n) (e : x ≡ getD xs i 0) (l : Left q xs i) where
+  pub left-next : q x ≡ true → Left q xs (i + 1)
+  unfolding Left every _and_
+  left-next t =
+      let b : i < length xs = omega arith in
+      let u : q (getD xs i 0) ≡ true = cc in
+      l ∙ rw (add-one, drop-cons xs i 0 b, u)
+
+  pub left-stop : q x ≡ false → false ≡ every q xs
+  unfolding Left every _and_
+  left-stop t =
+      let b : i < length xs = omega arith in
+      let u : q (getD xs i 0) ≡ false = cc in
+      sym (l ∙ rw (drop-cons xs i 0 b, u))
+
+pub left-end : (q : ℕ → Bool) (xs : List ℕ) (i n : ℕ) → length xs ≡ n → n ≤ i → Left q xs i → true ≡ every q xs
+unfolding Left every
+left-end q xs i n k h l =
+    let b : length xs ≤ i = omega arith in
+    sym (l ∙ rw (drop-of-length-le xs b))
+
+-- the bytes of a symbol, a serial number and blanks
+module _ (xs ys : List ℕ) (n i : ℕ) (h : length xs ≡ 4) (k : length ys ≡ 8) where
+  pub symbol-byte : i < 4 → getD xs i 0 ≡ getD (symbolAndSerial xs ys n) i 0
+  unfolding symbolAndSerial
+  symbol-byte b = sym (List·getD-append xs (ys ++ replicate n 0x40) 0 i (omega arith))
+
+  pub serial-byte : 4 ≤ i → i < 12 → getD ys (i - 4) 0 ≡ getD (symbolAndSerial xs ys n) i 0
+  unfolding symbolAndSerial
+  serial-byte a b =
+      let e : i ≡ length xs + (i - 4) = omega arith in
+      sym
+      (ap (λ (j : ℕ). getD (symbolAndSerial xs ys n) j 0) e
+      ∙ getD-append-add xs (ys ++ replicate n 0x40) (i - 4) 0
+      ∙ List·getD-append ys (replicate n 0x40) 0 (i - 4) (omega arith))
+
+  pub blank-byte : 12 ≤ i → i < n + 12 → 0x40 ≡ getD (symbolAndSerial xs ys n) i 0
+  unfolding symbolAndSerial
+  blank-byte a b =
+      let e : i ≡ length xs + (length ys + (i - 12)) = omega arith in
+      sym
+      (ap (λ (j : ℕ). getD (symbolAndSerial xs ys n) j 0) e
+      ∙ getD-append-add xs (ys ++ replicate n 0x40) (length ys + (i - 12)) 0
+      ∙ getD-append-add ys (replicate n 0x40) (i - 12) 0
+      ∙ getD-replicate n (i - 12) 0x40 0 (omega arith))
+
+pub composed-length : (xs ys : List ℕ) (n : ℕ) → length xs ≡ 4 → length ys ≡ 8 → length (symbolAndSerial xs ys n) ≡ n + 12
+unfolding symbolAndSerial
+composed-length xs ys n h k = simp (length-append, length-replicate) (omega arith)

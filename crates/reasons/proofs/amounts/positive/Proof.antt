@@ -1,0 +1,49 @@
+use borrow.Author.Needs.{needs}
+use Rattle.reasons.proofs.amounts.positive.Statement.{statement}
+use Rattle.reasons.proofs.amounts.positive.Tie as tie
+use Rattle.money.proofs.Amounts.{whole-of}
+use native.Mathlib.Omega.{arith}
+use Rattle.reasons.proofs.Laws.{above, whole-low}
+use Rattle.record.proofs.Chain.{chain, reads}
+use Rattle.reasons.specs.Reasons.{positive}
+
+field-blank-requires : tie.Need-field-blank-requires
+field-blank-requires c κs = search needs
+
+returns : tie.Need-returns
+unfolding positive
+returns c = search (needs, chain, reads, above)
+
+field-digits-requires : tie.Need-field-digits-requires
+field-digits-requires c κs = search needs
+
+returns-2 : tie.Need-returns-2
+unfolding positive
+returns-2 c = search (needs, chain, reads, above)
+
+field-amount-requires : tie.Need-field-amount-requires
+field-amount-requires c κs = search needs
+
+is-above-requires : tie.Need-is-above-requires
+is-above-requires c κs = (whole-of _ _ (c .field-amount .ensures), whole-low 0 (omega arith))
+
+returns-3 : tie.Need-returns-3
+unfolding positive
+returns-3 c = search (needs, chain, reads, above)
+
+returns-4 : tie.Need-returns-4
+unfolding positive
+returns-4 c = search (needs, chain, reads, above)
+
+pub positive-spec : {M : Type 1} → statement M
+positive-spec =
+    tie.close
+    (tie.spec
+    field-blank-requires
+    returns
+    field-digits-requires
+    returns-2
+    field-amount-requires
+    is-above-requires
+    returns-3
+    returns-4)

@@ -1,0 +1,38 @@
+use borrow.Author.Needs.{needs}
+use Rattle.reasons.proofs.lists.courtesy_check.Statement.{statement}
+use Rattle.reasons.proofs.lists.courtesy_check.Tie as tie
+use Rattle.reasons.specs.Reasons.{listed}
+use Rattle.record.proofs.Chain.{chain, reads}
+use Rattle.reasons.proofs.Laws.{ones}
+
+field-blank-requires : tie.Need-field-blank-requires
+field-blank-requires c κs = search needs
+
+returns : tie.Need-returns
+unfolding listed
+returns c = search (needs, chain, reads, ones)
+
+slice-aggregate-field-is : tie.Need-slice-aggregate-field-is
+slice-aggregate-field-is c = search needs
+
+field-is-requires : tie.Need-field-is-requires
+field-is-requires c κs = search needs
+
+returns-2 : tie.Need-returns-2
+unfolding listed
+returns-2 c = search (needs, chain, reads, ones)
+
+returns-3 : tie.Need-returns-3
+unfolding listed
+returns-3 c = search (needs, chain, reads, ones)
+
+pub courtesy-check-spec : {M : Type 1} → statement M
+courtesy-check-spec =
+    tie.close
+    (tie.spec
+    field-blank-requires
+    returns
+    slice-aggregate-field-is
+    field-is-requires
+    returns-2
+    returns-3)

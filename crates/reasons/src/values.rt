@@ -1,0 +1,162 @@
+// Reasons of single fields that their own bytes decide.
+use crate::BLANK;
+use crate::NO_DAY;
+use crate::SHAPE;
+use crate::UNLISTED;
+use record::Field;
+use record::Line;
+ghost use mathlib.Core.Path.{_≡_};
+ghost use mathlib.Core.Bool.{not};
+ghost use Prim.Native.Nat.{ℕ, _≤_};
+ghost use lib.Dec.{eqb};
+ghost use Rattle.record.specs.Value.{Has, seen, held};
+ghost use Rattle.record.specs.Tests.{every};
+ghost use Rattle.reasons.specs.Reasons.{required, number, ifNumber, unbroken, dashedDay, plainDay, monthAndYear, routingNumber, ifPostal};
+
+// Required.
+pub fn required(rec: &[u8], line: Line, field: Field) -> usize
+    requires { ⌜ Has (now rec) field ⌝ }
+    ensures { λ r. ⌜ r ≡ required (held (seen line (now (rec .entry))) field) ⌝ }
+{
+    if record::field_blank(rec, line, field) {
+        return BLANK;
+    }
+    0
+}
+
+// Required, digits.
+pub fn number(rec: &[u8], line: Line, field: Field) -> usize
+    requires { ⌜ Has (now rec) field ⌝ }
+    ensures { λ r. ⌜ r ≡ number (held (seen line (now (rec .entry))) field) ⌝ }
+{
+    if record::field_blank(rec, line, field) {
+        return BLANK;
+    }
+    if record::field_digits(rec, line, field) {
+        return 0;
+    }
+    SHAPE
+}
+
+// If filled, digits (field 96 of a payment's only DP).
+pub fn if_number(rec: &[u8], line: Line, field: Field) -> usize
+    requires { ⌜ Has (now rec) field ⌝ }
+    ensures { λ r. ⌜ r ≡ ifNumber (held (seen line (now (rec .entry))) field) ⌝ }
+{
+    if record::field_blank(rec, line, field) {
+        return 0;
+    }
+    if record::field_digits(rec, line, field) {
+        return 0;
+    }
+    SHAPE
+}
+
+// No byte of the field is blank.
+fn is_unbroken(rec: &[u8], line: Line, field: Field) -> bool
+    requires { ⌜ Has (now rec) field ⌝ }
+    ensures { λ r. ⌜ r ≡ every (λ (x : ℕ). not (eqb x 0x40)) (held (seen line (now (rec .entry))) field) ⌝ }
+{
+    let width = field.width;
+    let mut i: usize = 0;
+    while i < width {
+        if record::part_byte(rec, line, field, i) == 0x40 {
+            return false;
+        }
+        i += 1;
+    }
+    true
+}
+
+// No blank byte (field 7).
+pub fn unbroken(rec: &[u8], line: Line, field: Field) -> usize
+    requires { ⌜ Has (now rec) field ⌝ }
+    ensures { λ r. ⌜ r ≡ unbroken (held (seen line (now (rec .entry))) field) ⌝ }
+{
+    if record::field_blank(rec, line, field) {
+        return BLANK;
+    }
+    if is_unbroken(rec, line, field) {
+        return 0;
+    }
+    SHAPE
+}
+
+// A date CCYY-MM-DD.
+pub fn dashed_day(rec: &[u8], line: Line, field: Field) -> usize
+    requires { ⌜ Has (now rec) field × (field .width ≡ 10) ⌝ }
+    ensures { λ r. ⌜ r ≡ dashedDay (held (seen line (now (rec .entry))) field) ⌝ }
+{
+    if record::field_blank(rec, line, field) {
+        return BLANK;
+    }
+    if calendar::date_ccyy_mm_dd(rec, line, field) {
+        return 0;
+    }
+    NO_DAY
+}
+
+// A date YYYYMMDD.
+pub fn plain_day(rec: &[u8], line: Line, field: Field) -> usize
+    requires { ⌜ Has (now rec) field × (field .width ≡ 8) ⌝ }
+    ensures { λ r. ⌜ r ≡ plainDay (held (seen line (now (rec .entry))) field) ⌝ }
+{
+    if record::field_blank(rec, line, field) {
+        return BLANK;
+    }
+    if calendar::date_yyyymmdd(rec, line, field) {
+        return 0;
+    }
+    NO_DAY
+}
+
+// MMYY, four digits, month 01-12 (field 20).
+pub fn month_and_year(rec: &[u8], line: Line, field: Field) -> usize
+    requires { ⌜ Has (now rec) field × (field .width ≡ 4) ⌝ }
+    ensures { λ r. ⌜ r ≡ monthAndYear (held (seen line (now (rec .entry))) field) ⌝ }
+{
+    if record::field_blank(rec, line, field) {
+        return BLANK;
+    }
+    if !record::field_digits(rec, line, field) {
+        return SHAPE;
+    }
+    if calendar::month_mmyy(rec, line, field) {
+        return 0;
+    }
+    NO_DAY
+}
+
+// A routing number.
+pub fn routing_number(rec: &[u8], line: Line, field: Field) -> usize
+    requires { ⌜ Has (now rec) field × (2 ≤ field .width) ⌝ }
+    ensures { λ r. ⌜ r ≡ routingNumber (held (seen line (now (rec .entry))) field) ⌝ }
+{
+    if record::field_blank(rec, line, field) {
+        return BLANK;
+    }
+    if !record::field_digits(rec, line, field) {
+        return SHAPE;
+    }
+    if record::routing::field_routing(rec, line, field) {
+        return 0;
+    }
+    UNLISTED
+}
+
+// If filled, digits; unfilled also when all zeros (field 36).
+pub fn if_postal(rec: &[u8], line: Line, field: Field) -> usize
+    requires { ⌜ Has (now rec) field ⌝ }
+    ensures { λ r. ⌜ r ≡ ifPostal (held (seen line (now (rec .entry))) field) ⌝ }
+{
+    if record::field_blank(rec, line, field) {
+        return 0;
+    }
+    if record::field_zeros(rec, line, field) {
+        return 0;
+    }
+    if record::field_digits(rec, line, field) {
+        return 0;
+    }
+    SHAPE
+}

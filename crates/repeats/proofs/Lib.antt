@@ -1,0 +1,12 @@
+pub mod Cuts
+mod Places
+mod Copies
+mod Greatest
+mod Walks
+pub mod Looks
+mod Firsts
+mod Hashes
+mod Marks
+mod Classes
+mod Passes
+pub mod Unique

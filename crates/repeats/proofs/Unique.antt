@@ -1,0 +1,12 @@
+-- Each public function's contract allows one result for the same arguments: stated over the contract itself.
+-- Assumes nothing.
+use mathlib.Core.Path.{sym, _∙_}
+use Rattle.record.proofs.Unique.{OneResult}
+use Rattle.repeats.proofs.first_repeat.Reads as first-repeat
+use Rattle.repeats.proofs.look_at_batch.Reads as look-at-batch
+
+pub first-repeat-unique : OneResult first-repeat.Post
+first-repeat-unique κs a r s x y p q = p ∙ sym q
+
+pub look-at-batch-unique : OneResult look-at-batch.Post
+look-at-batch-unique κs a r s x y p q = p ∙ sym q

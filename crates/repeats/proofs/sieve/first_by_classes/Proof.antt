@@ -1,0 +1,56 @@
+use Prim.Native.Nat.{_≤_, _<_, _-_, _/_}
+use mathlib.Core.Path.{_≡_}
+use lib.ListN.{length}
+use Rattle.repeats.proofs.Passes.{Best, best-none, best-next, best-hit, best-miss}
+use borrow.Author.Needs.{needs}
+use Rattle.repeats.proofs.sieve.first_by_classes.Statement.{statement}
+use Rattle.repeats.proofs.sieve.first_by_classes.Tie as tie
+
+abbrev Inv-loop : tie.InvT-loop
+Inv-loop part first count classes best₀ class₀ best class = (class ≤ classes) × (0 < classes) × (count ≡ length part / 850) × Best classes first part count best class
+
+abbrev μ-loop : tie.MeasureT-loop
+μ-loop part first count classes best₀ class₀ best class = classes - class
+
+add-classes : tie.Need-add-classes Inv-loop μ-loop
+add-classes c = search needs
+
+loop-holds : tie.Need-loop-holds Inv-loop μ-loop
+loop-holds c = search (needs, best-none)
+
+pass-requires : tie.Need-pass-requires Inv-loop μ-loop
+pass-requires c κs = search needs
+
+add-class : tie.Need-add-class Inv-loop μ-loop
+add-class c = search needs
+
+loop-less : tie.Need-loop-less Inv-loop μ-loop
+loop-less c = search needs
+
+loop-again : tie.Need-loop-again Inv-loop μ-loop
+loop-again c = search (needs, best-next)
+
+add-t11 : tie.Need-add-t11 Inv-loop μ-loop
+add-t11 c = search needs
+
+returns : tie.Need-returns Inv-loop μ-loop
+returns c = search (needs, best-hit)
+
+returns-2 : tie.Need-returns-2 Inv-loop μ-loop
+returns-2 c = search (needs, best-miss)
+
+pub first-by-classes-spec : {M : Type 1} → statement M
+first-by-classes-spec =
+    tie.close
+    (tie.spec
+    Inv-loop
+    μ-loop
+    add-classes
+    loop-holds
+    pass-requires
+    add-class
+    loop-less
+    loop-again
+    add-t11
+    returns
+    returns-2)

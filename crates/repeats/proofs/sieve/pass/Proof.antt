@@ -1,0 +1,51 @@
+use Prim.Native.Nat.{_≤_, _-_}
+use mathlib.Core.Path.{_≡_}
+use lib.ListN.{length}
+use Rattle.nesting.specs.Records.{cut}
+use Rattle.repeats.specs.Sieve.{AllMarked}
+use Rattle.repeats.proofs.Classes.{marked-none}
+use Rattle.repeats.proofs.Passes.{Clean, clean-none, clean-next, passed-hit, passed-all}
+use borrow.Author.Needs.{needs}
+use Rattle.repeats.proofs.sieve.pass.Statement.{statement}
+use Rattle.repeats.proofs.sieve.pass.Tie as tie
+
+abbrev Inv-loop : tie.InvT-loop
+Inv-loop part first classes class best sieve₀ place₀ sieve place = (place ≤ best) × (length sieve ≡ 512) × AllMarked classes class sieve (cut first place part) × Clean classes class first part place
+
+abbrev μ-loop : tie.MeasureT-loop
+μ-loop part first classes class best sieve₀ place₀ sieve place = best - place
+
+loop-holds : tie.Need-loop-holds Inv-loop μ-loop
+loop-holds c = search (needs, marked-none, clean-none)
+
+repeats-in-requires : tie.Need-repeats-in-requires Inv-loop μ-loop
+repeats-in-requires c κs = search needs
+
+returns : tie.Need-returns Inv-loop μ-loop
+returns c = search (needs, passed-hit)
+
+add-place : tie.Need-add-place Inv-loop μ-loop
+add-place c = search needs
+
+loop-less : tie.Need-loop-less Inv-loop μ-loop
+loop-less c = search needs
+
+loop-again : tie.Need-loop-again Inv-loop μ-loop
+loop-again c = search (needs, clean-next)
+
+returns-2 : tie.Need-returns-2 Inv-loop μ-loop
+returns-2 c = search (needs, passed-all)
+
+pub pass-spec : {M : Type 1} → statement M
+pass-spec =
+    tie.close
+    (tie.spec
+    Inv-loop
+    μ-loop
+    loop-holds
+    repeats-in-requires
+    returns
+    add-place
+    loop-less
+    loop-again
+    returns-2)

@@ -1,0 +1,61 @@
+use Rattle.repeats.proofs.Places.{of-payments, of-batches}
+use borrow.Author.Needs.{needs}
+use Rattle.repeats.proofs.walk.is_of.Statement.{statement}
+use Rattle.repeats.proofs.walk.is_of.Tie as tie
+
+mul-at : tie.Need-mul-at
+mul-at c = search needs
+
+add-end : tie.Need-add-end
+add-end c = search needs
+
+add-number : tie.Need-add-number
+add-number c = search needs
+
+sub-code-of : tie.Need-sub-code-of
+sub-code-of c = search needs
+
+part-code-of-start : tie.Need-part-code-of-start
+part-code-of-start c = search needs
+
+part-code-of-end : tie.Need-part-code-of-end
+part-code-of-end c = search needs
+
+code-of-requires : tie.Need-code-of-requires
+code-of-requires c κs = search needs
+
+enum-told : tie.Need-enum-told
+enum-told c = search needs
+
+is-detail-requires : tie.Need-is-detail-requires
+is-detail-requires c κs = search needs
+
+enum-told-2 : tie.Need-enum-told-2
+enum-told-2 c = search needs
+
+is-header-requires : tie.Need-is-header-requires
+is-header-requires c κs = search needs
+
+returns : tie.Need-returns
+returns c = search (needs, of-payments)
+
+returns-2 : tie.Need-returns-2
+returns-2 c = search (needs, of-batches)
+
+pub is-of-spec : {M : Type 1} → statement M
+is-of-spec =
+    tie.close
+    (tie.spec
+    mul-at
+    add-end
+    add-number
+    sub-code-of
+    part-code-of-start
+    part-code-of-end
+    code-of-requires
+    enum-told
+    is-detail-requires
+    enum-told-2
+    is-header-requires
+    returns
+    returns-2)

@@ -1,0 +1,47 @@
+-- A record by its place in the bytes, and what is known of the numbers before it.
+use Prim.Native.Nat.{ℕ, _+_, _*_, _<_, _≤_}
+use mathlib.Core.Bool.{Bool, true, false, not}
+use mathlib.Core.List.{List}
+use lib.ListN.{length, take, drop}
+use Rattle.record.specs.declared.Order.{Order}
+use Rattle.record.specs.declared.Order.the-variants.{Before, Same, After}
+use Rattle.record.specs.Choice.{_and_, choose}
+use Rattle.record.specs.Value.{seen, held}
+use Rattle.record.specs.Ordering.{order}
+use Rattle.nesting.specs.Division.{Record}
+use Rattle.nesting.specs.Records.{cut}
+use Rattle.repeats.specs.declared.Sort.{Sort}
+use Rattle.repeats.specs.declared.Sort.the-variants.{Payments, Batches}
+use Rattle.repeats.specs.declared.Look.{Look}
+use Rattle.repeats.specs.declared.walk.Climbing.{Climbing}
+use Rattle.repeats.specs.Repeats.{numbering, isOf, repeats}
+
+-- the record at a place, counted from 0, as the rules see it; the record at place 0 has the number `first`
+unfoldable pub recordAt : ℕ → ℕ → List ℕ → Record
+recordAt first place bytes = seen (record { number = first + place }) (take 850 (drop (place * 850) bytes))
+
+-- the bytes have a whole record at the place, and its number is small
+abbrev pub Stands : ℕ → ℕ → List ℕ → Type 0
+Stands first place bytes = (place * 850 + 850 ≤ length bytes) × (first + place < 131072)
+
+-- the first stands after the second
+unfoldable pub isAfter : Order → Bool
+isAfter Before = false
+isAfter Same = false
+isAfter After = true
+
+-- the record is numbered so, and its number stands after the greatest
+unfoldable pub rises : Sort → Record → List ℕ → Bool
+rises sort r greatest = isOf sort r and isAfter (order (held r (numbering sort)) greatest)
+
+-- the greatest number after one record more
+unfoldable pub raised : Sort → Record → List ℕ → List ℕ
+raised sort r greatest = choose (rises sort r greatest) (held r (numbering sort)) greatest
+
+-- what a look at the record at the place finds: whether it repeats an earlier batch's number, and the greatest number after it
+unfoldable pub looked : List ℕ → ℕ → List ℕ → Look
+looked file place greatest = record { repeats = repeats Batches (cut 1 place file) (recordAt 1 place file); greatest = raised Batches (recordAt 1 place file) greatest }
+
+-- what one record does to a climb: whether it is a detail whose ID does not stand after the greatest, and the greatest ID after it
+unfoldable pub climbed : Record → List ℕ → Climbing
+climbed r greatest = record { falls = isOf Payments r and not (isAfter (order (held r (numbering Payments)) greatest)); greatest = raised Payments r greatest }

@@ -1,0 +1,80 @@
+-- Numbers that repeat an earlier one (01 Batch reasons, 6): a batch's schedule number in the file, a Payment ID in its batch.
+use Prim.Native.Nat.{ℕ, _+_}
+use mathlib.Core.Path.{_≡_}
+use mathlib.Core.Bool.{Bool, true, false}
+use mathlib.Core.List.{List, [], _∷_, _++_}
+use Rattle.record.specs.declared.Field.{Field}
+use Rattle.record.specs.declared.Order.the-variants.{After}
+use Rattle.record.specs.declared.codes.Code.{Code}
+use Rattle.record.specs.declared.codes.Code.the-variants.{FileHeader, Batch, Detail, Party, Account, Procurement, BatchTrailer, FileTrailer, Unknown}
+use Rattle.record.specs.Choice.{_and_, _or_, choose}
+use Rattle.record.specs.Value.{held}
+use Rattle.record.specs.Tests.{alike}
+use Rattle.record.specs.Ordering.{order}
+use Rattle.record.specs.Codes.{codeOf}
+use Rattle.nesting.specs.Division.{Record, paymentId}
+use Rattle.repeats.specs.declared.Repeat.{Repeat}
+use Rattle.repeats.specs.declared.Repeat.the-variants.{At, Nowhere}
+use Rattle.repeats.specs.declared.Sort.{Sort}
+use Rattle.repeats.specs.declared.Sort.the-variants.{Payments, Batches}
+
+-- positions 3-16 of a batch header (004 field 6)
+abbrev pub scheduleNumber : Field
+scheduleNumber = record { start = 3; width = 14 }
+
+-- what is numbered: a payment's detail by its Payment ID, a batch's header by its schedule number
+unfoldable pub numbering : Sort → Field
+numbering Payments = paymentId
+numbering Batches = scheduleNumber
+
+-- a detail, a batch header
+unfoldable pub isDetail : Code → Bool
+isDetail FileHeader = false
+isDetail (Batch l) = false
+isDetail (Detail l) = true
+isDetail Party = false
+isDetail Account = false
+isDetail Procurement = false
+isDetail BatchTrailer = false
+isDetail FileTrailer = false
+isDetail Unknown = false
+
+unfoldable pub isHeader : Code → Bool
+isHeader FileHeader = false
+isHeader (Batch l) = true
+isHeader (Detail l) = false
+isHeader Party = false
+isHeader Account = false
+isHeader Procurement = false
+isHeader BatchTrailer = false
+isHeader FileTrailer = false
+isHeader Unknown = false
+
+-- the record is numbered so
+unfoldable pub isOf : Sort → Record → Bool
+isOf Payments r = isDetail (codeOf r)
+isOf Batches r = isHeader (codeOf r)
+
+-- the numbers among records
+unfoldable pub numbers : Sort → List Record → List (List ℕ)
+numbers sort [] = []
+numbers sort (r ∷ rs) = choose (isOf sort r) (held r (numbering sort) ∷ numbers sort rs) (numbers sort rs)
+
+-- one of these numbers
+unfoldable pub member : List ℕ → List (List ℕ) → Bool
+member x [] = false
+member x (y ∷ ys) = alike y x or member x ys
+
+-- the record's number is an earlier one's
+unfoldable pub repeats : Sort → List Record → Record → Bool
+repeats sort earlier r = isOf sort r and member (held r (numbering sort)) (numbers sort earlier)
+
+-- the first record that repeats an earlier one, by its number in the file; n is that of the first
+unfoldable pub firstRepeat : Sort → ℕ → List Record → List Record → Repeat
+firstRepeat sort n earlier [] = Nowhere
+firstRepeat sort n earlier (r ∷ rs) = choose (repeats sort earlier r) (At n) (firstRepeat sort (n + 1) (earlier ++ r ∷ []) rs)
+
+-- none of the numbers stands after the greatest
+unfoldable pub Topped : List ℕ → List (List ℕ) → Type 0
+Topped greatest [] = Unit {0}
+Topped greatest (y ∷ ys) = (order y greatest ≡ After → ⊥) × Topped greatest ys

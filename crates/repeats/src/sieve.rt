@@ -1,0 +1,175 @@
+// The first repeat of a Payment ID where the IDs do not climb: passes over classes of a hash, each with a sieve of 32,768 bits on the
+// stack. The plain walk is made only where all three marks of an ID are set, so that a batch of many payments costs a few passes.
+use crate::Repeat;
+use crate::Sort;
+use crate::walk::is_of;
+use crate::walk::is_repeated;
+use crate::walk::payment_id;
+ghost use mathlib.Core.Path.{_≡_};
+ghost use mathlib.Core.List.{[]};
+ghost use Prim.Native.Nat.{_+_, _*_, _/_, _<_, _≤_};
+ghost use lib.ListN.{length};
+ghost use Rattle.nesting.specs.Records.{cut};
+ghost use Rattle.repeats.specs.declared.Sort.the-variants.{Payments};
+ghost use Rattle.repeats.specs.Repeats.{firstRepeat};
+ghost use Rattle.repeats.specs.Places.{recordAt, Stands};
+ghost use Rattle.repeats.specs.Sieve.{idOf, wordOf, mixed, hashOf, marked, isMarked, hasMarks, withMarks, inClass, AllMarked, repeatsIn, Passed};
+
+fn wide(byte: u8) -> u64
+    ensures { λ r. ⌜ (r ≡ byte) × (r < 256) ⌝ }
+{
+    byte as u64
+}
+
+// Four bytes of an ID as one number.
+fn word(id: [u8; 20], i: usize) -> u64
+    requires { ⌜ i + 4 ≤ 20 ⌝ }
+    ensures { λ r. ⌜ (r ≡ wordOf id i) × (r < 4294967296) ⌝ }
+{
+    wide(id[i]) + wide(id[i + 1]) * 256 + wide(id[i + 2]) * 65536 + wide(id[i + 3]) * 16777216
+}
+
+// One word more in the hash: the low half is spread over all bits, the high half is carried. No step wraps.
+fn mix(hash: u64, word: u64) -> u64
+    requires { ⌜ word < 4294967296 ⌝ }
+    ensures { λ r. ⌜ r ≡ mixed hash word ⌝ }
+{
+    hash % 4294967296 * 2654435761 + hash / 4294967296 + word
+}
+
+// The hash of an ID. No promise rests on it; only the time does.
+fn hash_of(id: [u8; 20]) -> u64
+    ensures { λ r. ⌜ r ≡ hashOf id ⌝ }
+{
+    let mut hash: u64 = 0;
+    let mut k: usize = 0;
+    while k < 5 {
+        let next = word(id, k * 4);
+        hash = mix(hash, next);
+        k += 1;
+    }
+    let stirred = mix(hash, 0);
+    mix(stirred, 0)
+}
+
+fn is_marked(sieve: &[u64; 512], slot: usize) -> bool
+    requires { ⌜ slot < 32768 ⌝ }
+    ensures { λ r. ⌜ r ≡ isMarked (now (sieve .entry)) slot ⌝ }
+{
+    let bits = sieve[slot / 64];
+    let bit = slot % 64;
+    (bits >> bit) % 2 == 1
+}
+
+fn mark(sieve: &mut [u64; 512], slot: usize)
+    requires { ⌜ slot < 32768 ⌝ }
+    ensures { λ r. ⌜ now (sieve .exit) ≡ marked (now (sieve .entry)) slot ⌝ }
+{
+    let at = slot / 64;
+    let bit = slot % 64;
+    sieve[at] = sieve[at] | (1u64 << bit);
+}
+
+// The hash has its three marks.
+fn has_marks(sieve: &[u64; 512], hash: u64) -> bool
+    ensures { λ r. ⌜ r ≡ hasMarks (now (sieve .entry)) hash ⌝ }
+{
+    if !is_marked(sieve, (hash % 32768) as usize) {
+        return false;
+    }
+    if !is_marked(sieve, (hash / 32768 % 32768) as usize) {
+        return false;
+    }
+    is_marked(sieve, (hash / 1073741824 % 32768) as usize)
+}
+
+fn give_marks(sieve: &mut [u64; 512], hash: u64)
+    ensures { λ r. ⌜ now (sieve .exit) ≡ withMarks (now (sieve .entry)) hash ⌝ }
+{
+    mark(sieve, (hash % 32768) as usize);
+    mark(sieve, (hash / 32768 % 32768) as usize);
+    mark(sieve, (hash / 1073741824 % 32768) as usize);
+}
+
+// The record at the place is a detail of the class.
+fn is_in_class(part: &[u8], first: usize, place: usize, classes: u64, class: u64) -> bool
+    requires { ⌜ Stands first place (now part) × (0 < classes) ⌝ }
+    ensures { λ r. ⌜ r ≡ inClass classes class (recordAt first place (now (part .entry))) ⌝ }
+{
+    if !is_of(part, first, place, Sort::Payments) {
+        return false;
+    }
+    let hash = hash_of(payment_id(part, first, place));
+    hash / 281474976710656 % classes == class
+}
+
+// Whether the ID of the record at the place has its marks already. It has them after.
+fn sift(part: &[u8], first: usize, place: usize, sieve: &mut [u64; 512]) -> bool
+    requires { ⌜ Stands first place (now part) ⌝ }
+    ensures answer { λ r. ⌜ r ≡ hasMarks (now (sieve .entry)) (hashOf (idOf (recordAt first place (now (part .entry))))) ⌝ }
+    ensures after { λ r. ⌜ now (sieve .exit) ≡ withMarks (now (sieve .entry)) (hashOf (idOf (recordAt first place (now (part .entry))))) ⌝ }
+{
+    let hash = hash_of(payment_id(part, first, place));
+    let before = has_marks(sieve, hash);
+    give_marks(sieve, hash);
+    before
+}
+
+// The record at the place is a detail of the class that repeats an earlier one. An ID that lacks a mark is new; the others are walked.
+fn repeats_in(
+    part: &[u8],
+    first: usize,
+    place: usize,
+    classes: u64,
+    class: u64,
+    sieve: &mut [u64; 512],
+) -> bool
+    requires { ⌜ Stands first place (now part) × (0 < classes) × (length (now sieve) ≡ 512) × AllMarked classes class (now sieve) (cut first place (now part)) ⌝ }
+    ensures answer { λ r. ⌜ r ≡ repeatsIn classes class first (now (part .entry)) place ⌝ }
+    ensures size { λ r. ⌜ length (now (sieve .exit)) ≡ 512 ⌝ }
+    ensures after { λ r. ⌜ AllMarked classes class (now (sieve .exit)) (cut first (place + 1) (now (part .entry))) ⌝ }
+{
+    if !is_in_class(part, first, place, classes, class) {
+        return false;
+    }
+    if !sift(part, first, place, sieve) {
+        return false;
+    }
+    is_repeated(part, first, place, Sort::Payments)
+}
+
+// The first place before the best at which a detail of the class repeats an earlier one; else the best.
+fn pass(part: &[u8], first: usize, classes: u64, class: u64, best: usize) -> usize
+    requires { ⌜ (length (now part) ≤ 65535 * 850) × (first ≤ 65536) × (best * 850 ≤ length (now part)) × (0 < classes) ⌝ }
+    ensures { λ r. ⌜ Passed classes class first (now (part .entry)) best r ⌝ }
+{
+    let mut sieve = [0u64; 512];
+    let mut place: usize = 0;
+    while place < best {
+        if repeats_in(part, first, place, classes, class, &mut sieve) {
+            return place;
+        }
+        place += 1;
+    }
+    best
+}
+
+// The first repeat. A class for 4,096 records: at least every second record of a batch is no detail (01 Nesting), so that some 2,000 IDs
+// share a sieve, and a new ID meets three marks of others about once in 200 times at the end of a pass.
+pub(crate) fn first_by_classes(part: &[u8], first: usize) -> Repeat
+    requires { ⌜ (length (now part) ≤ 65535 * 850) × (first ≤ 65536) ⌝ }
+    ensures { λ r. ⌜ r ≡ firstRepeat Payments first [] (cut first (length (now (part .entry)) / 850) (now (part .entry))) ⌝ }
+{
+    let count = part.len() / 850;
+    let classes = (count / 4096) as u64 + 1;
+    let mut best = count;
+    let mut class: u64 = 0;
+    while class < classes {
+        best = pass(part, first, classes, class, best);
+        class += 1;
+    }
+    if best < count {
+        return Repeat::At(first + best);
+    }
+    Repeat::Nowhere
+}

@@ -1,0 +1,229 @@
+// Records by their places, and the plain walk over the earlier ones.
+use crate::Sort;
+use record::Field;
+use record::Line;
+use record::codes::Code;
+use record::codes::code_of;
+use record::layout::PAYMENT_ID;
+use record::layout::SCHEDULE_NUMBER;
+ghost use mathlib.Core.Path.{_≡_};
+ghost use mathlib.Core.Bool.{true};
+ghost use mathlib.Core.List.{[]};
+ghost use Prim.Native.Nat.{_*_, _/_, _≤_};
+ghost use lib.ListN.{length};
+ghost use Rattle.record.specs.Choice.{_and_};
+ghost use Rattle.record.specs.Value.{Has, seen, held};
+ghost use Rattle.record.specs.Tests.{alike};
+ghost use Rattle.record.specs.Ordering.{order};
+ghost use Rattle.nesting.specs.Records.{cut};
+ghost use Rattle.repeats.specs.declared.Repeat.the-variants.{Nowhere};
+ghost use Rattle.repeats.specs.declared.Sort.the-variants.{Payments, Batches};
+ghost use Rattle.repeats.specs.Repeats.{numbering, isDetail, isHeader, isOf, repeats, firstRepeat};
+ghost use Rattle.repeats.specs.Places.{recordAt, Stands, isAfter, climbed};
+
+// Whether a payment's ID fails to stand after all those before it, and the greatest ID after it.
+pub(crate) struct Climbing {
+    pub(crate) falls: bool,
+    pub(crate) greatest: [u8; 20],
+}
+
+// Where the number stands: 004 fields 23 and 6.
+fn number_field(sort: Sort) -> Field
+    ensures { λ r. ⌜ r ≡ numbering sort ⌝ }
+{
+    match sort {
+        Sort::Payments => PAYMENT_ID,
+        Sort::Batches => SCHEDULE_NUMBER,
+    }
+}
+
+fn is_detail(code: Code) -> bool
+    ensures { λ r. ⌜ r ≡ isDetail code ⌝ }
+{
+    match code {
+        Code::Detail(_) => true,
+        _ => false,
+    }
+}
+
+fn is_header(code: Code) -> bool
+    ensures { λ r. ⌜ r ≡ isHeader code ⌝ }
+{
+    match code {
+        Code::Batch(_) => true,
+        _ => false,
+    }
+}
+
+// The record at the place is one of those that the sort numbers.
+pub(crate) fn is_of(file: &[u8], first: usize, place: usize, sort: Sort) -> bool
+    requires { ⌜ Stands first place (now file) ⌝ }
+    ensures { λ r. ⌜ r ≡ isOf sort (recordAt first place (now (file .entry))) ⌝ }
+{
+    let at = place * 850;
+    let end = at + 850;
+    let number = first + place;
+    let code = code_of(&file[at..end], Line { number });
+    match sort {
+        Sort::Payments => is_detail(code),
+        Sort::Batches => is_header(code),
+    }
+}
+
+// The record at the earlier place is of the sort, and has the number of the record at the place.
+fn agrees(file: &[u8], first: usize, earlier: usize, place: usize, sort: Sort) -> bool
+    requires { ⌜ Stands first earlier (now file) × Stands first place (now file) ⌝ }
+    ensures { λ r. ⌜ r ≡ (isOf sort (recordAt first earlier (now (file .entry))) and alike (held (recordAt first earlier (now (file .entry))) (numbering sort)) (held (recordAt first place (now (file .entry))) (numbering sort))) ⌝ }
+{
+    if !is_of(file, first, earlier, sort) {
+        return false;
+    }
+    let from = earlier * 850;
+    let to = from + 850;
+    let number = first + earlier;
+    let at = place * 850;
+    let end = at + 850;
+    let own = first + place;
+    let field = number_field(sort);
+    record::fields_same(
+        &file[from..to],
+        Line { number },
+        field,
+        &file[at..end],
+        Line { number: own },
+        field,
+    )
+}
+
+// The record at the place is of the sort and has the number of an earlier one (01 Batch reasons, 6).
+pub(crate) fn is_repeated(file: &[u8], first: usize, place: usize, sort: Sort) -> bool
+    requires { ⌜ Stands first place (now file) ⌝ }
+    ensures { λ r. ⌜ r ≡ repeats sort (cut first place (now (file .entry))) (recordAt first place (now (file .entry))) ⌝ }
+{
+    if !is_of(file, first, place, sort) {
+        return false;
+    }
+    let mut earlier: usize = 0;
+    while earlier < place {
+        if agrees(file, first, earlier, place, sort) {
+            return true;
+        }
+        earlier += 1;
+    }
+    false
+}
+
+// What the field holds stands after the greatest: the first byte that differs decides.
+fn stands_after(rec: &[u8], line: Line, field: Field, greatest: &[u8]) -> bool
+    requires { ⌜ Has (now rec) field × (length (now greatest) ≡ field .width) ⌝ }
+    ensures { λ r. ⌜ r ≡ isAfter (order (held (seen line (now (rec .entry))) field) (now (greatest .entry))) ⌝ }
+{
+    let width = field.width;
+    let mut i: usize = 0;
+    while i < width {
+        let byte = record::part_byte(rec, line, field, i);
+        let other = greatest[i];
+        if other < byte {
+            return true;
+        }
+        if byte < other {
+            return false;
+        }
+        i += 1;
+    }
+    false
+}
+
+// The number of the record at the place stands after the greatest.
+pub(crate) fn is_after(file: &[u8], first: usize, place: usize, sort: Sort, greatest: &[u8]) -> bool
+    requires { ⌜ Stands first place (now file) × (length (now greatest) ≡ numbering sort .width) ⌝ }
+    ensures { λ r. ⌜ r ≡ isAfter (order (held (recordAt first place (now (file .entry))) (numbering sort)) (now (greatest .entry))) ⌝ }
+{
+    let at = place * 850;
+    let end = at + 850;
+    let number = first + place;
+    let field = number_field(sort);
+    stands_after(&file[at..end], Line { number }, field, greatest)
+}
+
+// The schedule number of the record at the place (004 field 6).
+pub(crate) fn schedule_number(file: &[u8], first: usize, place: usize) -> [u8; 14]
+    requires { ⌜ Stands first place (now file) ⌝ }
+    ensures { λ r. ⌜ r ≡ held (recordAt first place (now (file .entry))) (numbering Batches) ⌝ }
+{
+    let at = place * 850;
+    let end = at + 850;
+    let rec = &file[at..end];
+    let number = first + place;
+    let line = Line { number };
+    let mut copy = [0u8; 14];
+    let mut i: usize = 0;
+    while i < 14 {
+        copy[i] = record::part_byte(rec, line, SCHEDULE_NUMBER, i);
+        i += 1;
+    }
+    copy
+}
+
+// The Payment ID of the record at the place (004 field 23).
+pub(crate) fn payment_id(file: &[u8], first: usize, place: usize) -> [u8; 20]
+    requires { ⌜ Stands first place (now file) ⌝ }
+    ensures { λ r. ⌜ r ≡ held (recordAt first place (now (file .entry))) (numbering Payments) ⌝ }
+{
+    let at = place * 850;
+    let end = at + 850;
+    let rec = &file[at..end];
+    let number = first + place;
+    let line = Line { number };
+    let mut copy = [0u8; 20];
+    let mut i: usize = 0;
+    while i < 20 {
+        copy[i] = record::part_byte(rec, line, PAYMENT_ID, i);
+        i += 1;
+    }
+    copy
+}
+
+// One record more of a climb.
+fn climb(part: &[u8], first: usize, place: usize, greatest: [u8; 20]) -> Climbing
+    requires { ⌜ Stands first place (now part) ⌝ }
+    ensures { λ r. ⌜ r ≡ climbed (recordAt first place (now (part .entry))) greatest ⌝ }
+{
+    if !is_of(part, first, place, Sort::Payments) {
+        return Climbing {
+            falls: false,
+            greatest,
+        };
+    }
+    if is_after(part, first, place, Sort::Payments, &greatest) {
+        let id = payment_id(part, first, place);
+        return Climbing {
+            falls: false,
+            greatest: id,
+        };
+    }
+    Climbing {
+        falls: true,
+        greatest,
+    }
+}
+
+// Whether each Payment ID stands after all those before it: then none repeats, and one pass has shown it.
+pub(crate) fn does_climb(part: &[u8], first: usize) -> bool
+    requires { ⌜ (length (now part) ≤ 65535 * 850) × (first ≤ 65536) ⌝ }
+    ensures { λ r. ⌜ (r ≡ true → Nowhere ≡ firstRepeat Payments first [] (cut first (length (now (part .entry)) / 850) (now (part .entry)))) ⌝ }
+{
+    let count = part.len() / 850;
+    let mut greatest = [0u8; 20];
+    let mut place: usize = 0;
+    while place < count {
+        let step = climb(part, first, place, greatest);
+        if step.falls {
+            return false;
+        }
+        let raised = step.greatest;
+        greatest = raised;
+        place += 1;
+    }
+    true
+}

@@ -1,0 +1,21 @@
+use Rattle.record.specs.Choice.{choose, _and_, _or_}
+use Rattle.record.specs.Codes.{letterByte}
+use Rattle.reasons.proofs.Firsts.{last}
+use Rattle.rules.specs.Rules.{rows, among, findings, reason, procurement}
+use borrow.Author.Needs.{needs}
+use Rattle.rules.proofs.others.procurement_rules.Statement.{statement}
+use Rattle.rules.proofs.others.procurement_rules.Tie as tie
+
+number-requires : tie.Need-number-requires
+number-requires c κs = search needs
+
+note-requires : tie.Need-note-requires
+note-requires c κs = search needs
+
+returns : tie.Need-returns
+unfolding rows among findings reason procurement letterByte choose _and_ _or_
+returns c =
+    last _ _ _ _ _ _ (c .note .ensures) (c .before .number .ensures)
+
+pub procurement-rules-spec : {M : Type 1} → statement M
+procurement-rules-spec = tie.close (tie.spec number-requires note-requires returns)

@@ -1,0 +1,37 @@
+// The rules of one record (01 Header, Detail, Others).
+pub mod detail;
+pub mod header;
+pub mod others;
+
+use money::Amount;
+use record::Line;
+use record::layout::CHECK_SYMBOL_NUMBER;
+ghost use mathlib.Core.Path.{_≡_};
+ghost use lib.ListN.{length};
+ghost use Rattle.record.specs.Value.{seen, held};
+ghost use Rattle.rules.specs.Rules.{symbolField};
+
+// What the rules of a record need to know of its batch: whether the record's number repeats an earlier one, whether the payer
+// is a CARS Reporter, the header's check symbol and first serial number, the payments before this record and their total.
+pub struct Context {
+    pub repeats: bool,
+    pub reporter: bool,
+    pub symbol: [u8; 4],
+    pub serial: u64,
+    pub payments: u64,
+    pub total: Amount,
+}
+
+// A header's check symbol (field 18).
+pub fn symbol_of(rec: &[u8], line: Line) -> [u8; 4]
+    requires { ⌜ length (now rec) ≡ 850 ⌝ }
+    ensures { λ r. ⌜ r ≡ held (seen line (now (rec .entry))) symbolField ⌝ }
+{
+    let mut symbol = [0u8; 4];
+    let mut i: usize = 0;
+    while i < 4 {
+        symbol[i] = record::part_byte(rec, line, CHECK_SYMBOL_NUMBER, i);
+        i += 1;
+    }
+    symbol
+}
