@@ -66,9 +66,14 @@ module _ (r u : Bool) (a : Amount) (n : ℕ) (e : a ≡ split n) (t : r ≡ u) w
   pub equals : (s : Amount) → r ≡ eqb (worth a) (worth s) → eqb n (worth s) ≡ u
   equals s h = sym (rw worth-is at h) ∙ t
 
-pub whole-low : (k : ℕ) → k < 10000000000 → Whole (record { high = 0; low = k })
+-- nothing, and the most that a check is written for
+pub whole-nothing : Whole (record { high = 0; low = 0 })
 unfolding Whole
-whole-low k h = h
+whole-nothing = omega arith
+
+pub whole-limit : Whole (record { high = 0; low = 9999999999 })
+unfolding Whole
+whole-limit = omega arith
 
 -- a number that was read, in a range or equal to another
 module _ (x n : ℕ) (e : x ≡ n) where

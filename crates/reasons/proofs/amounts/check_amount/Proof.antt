@@ -2,8 +2,7 @@ use borrow.Author.Needs.{needs}
 use Rattle.reasons.proofs.amounts.check_amount.Statement.{statement}
 use Rattle.reasons.proofs.amounts.check_amount.Tie as tie
 use Rattle.money.proofs.Amounts.{whole-of}
-use native.Mathlib.Omega.{arith}
-use Rattle.reasons.proofs.Laws.{above, whole-low}
+use Rattle.reasons.proofs.Laws.{above, whole-nothing, whole-limit}
 use Rattle.record.proofs.Chain.{chain, reads, choose-yes, choose-no}
 use Rattle.reasons.specs.Reasons.{checkAmount}
 
@@ -25,14 +24,14 @@ field-amount-requires : tie.Need-field-amount-requires
 field-amount-requires c κs = search needs
 
 is-above-requires : tie.Need-is-above-requires
-is-above-requires c κs = (whole-of _ _ (c .field-amount .ensures), whole-low 9999999999 (omega arith))
+is-above-requires c κs = (search (needs, whole-of, whole-nothing, whole-limit), search (needs, whole-of, whole-nothing, whole-limit))
 
 returns-3 : tie.Need-returns-3
 unfolding checkAmount
 returns-3 c = search (needs, chain, reads, above)
 
 is-above-requires-2 : tie.Need-is-above-requires-2
-is-above-requires-2 c κs = (whole-of _ _ (c .before .before .before .field-amount .ensures), whole-low 0 (omega arith))
+is-above-requires-2 c κs = (search (needs, whole-of, whole-nothing, whole-limit), search (needs, whole-of, whole-nothing, whole-limit))
 
 returns-4 : tie.Need-returns-4
 unfolding checkAmount

@@ -2,8 +2,7 @@ use borrow.Author.Needs.{needs}
 use Rattle.reasons.proofs.amounts.positive.Statement.{statement}
 use Rattle.reasons.proofs.amounts.positive.Tie as tie
 use Rattle.money.proofs.Amounts.{whole-of}
-use native.Mathlib.Omega.{arith}
-use Rattle.reasons.proofs.Laws.{above, whole-low}
+use Rattle.reasons.proofs.Laws.{above, whole-nothing, whole-limit}
 use Rattle.record.proofs.Chain.{chain, reads}
 use Rattle.reasons.specs.Reasons.{positive}
 
@@ -25,7 +24,7 @@ field-amount-requires : tie.Need-field-amount-requires
 field-amount-requires c κs = search needs
 
 is-above-requires : tie.Need-is-above-requires
-is-above-requires c κs = (whole-of _ _ (c .field-amount .ensures), whole-low 0 (omega arith))
+is-above-requires c κs = (search (needs, whole-of, whole-nothing, whole-limit), search (needs, whole-of, whole-nothing, whole-limit))
 
 returns-3 : tie.Need-returns-3
 unfolding positive
