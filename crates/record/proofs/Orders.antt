@@ -17,15 +17,15 @@ use Rattle.record.specs.Ordering.{order}
 use Rattle.record.proofs.Every.{value-length}
 
 -- by the first byte
-before : (x y : ℕ) (xs ys : List ℕ) → x < y → order (x ∷ xs) (y ∷ ys) ≡ Before
+pub before : (x y : ℕ) (xs ys : List ℕ) → x < y → order (x ∷ xs) (y ∷ ys) ≡ Before
 unfolding order choose
 before x y xs ys h = rw (lt-ltb x y h)
 
-after : (x y : ℕ) (xs ys : List ℕ) → y < x → order (x ∷ xs) (y ∷ ys) ≡ After
+pub after : (x y : ℕ) (xs ys : List ℕ) → y < x → order (x ∷ xs) (y ∷ ys) ≡ After
 unfolding order choose
 after x y xs ys h = rw (le-ltb x y (omega arith), lt-ltb y x h)
 
-level : (x y : ℕ) (xs ys : List ℕ) → x ≤ y → y ≤ x → order (x ∷ xs) (y ∷ ys) ≡ order xs ys
+pub level : (x y : ℕ) (xs ys : List ℕ) → x ≤ y → y ≤ x → order (x ∷ xs) (y ∷ ys) ≡ order xs ys
 unfolding order choose
 level x y xs ys h k = rw (le-ltb x y k, le-ltb y x h)
 

@@ -6,35 +6,30 @@ use mathlib.Core.List.{List, [], _∷_, _++_}
 use Prim.Native.Nat.{ℕ, _+_, _≤_, _<_}
 use native.Mathlib.Numerals.{add-one}
 use native.Mathlib.Omega.{arith}
-use borrow.Author.Tests.{lt-ltb, le-ltb}
 use lib.ListN.{length, getD, drop-of-length-le}
 use lib.Seq.{drop-cons}
 use Rattle.record.specs.declared.Field.{Field}
 use Rattle.record.specs.declared.Line.{Line}
 use Rattle.record.specs.declared.Order.{Order}
 use Rattle.record.specs.declared.Order.the-variants.{Before, Same, After}
-use Rattle.record.specs.Choice.{_or_, choose}
+use Rattle.record.specs.Choice.{_or_}
 use Rattle.record.specs.Value.{Has, seen, held}
 use Rattle.record.specs.Tests.{alike}
 use Rattle.record.specs.Ordering.{order}
 use Rattle.record.proofs.Held.{held-length}
 use Rattle.record.proofs.Same.{alike-equal}
-use Rattle.record.proofs.Orders.{Level, turned, order-turned, order-self, order-transitive}
+use Rattle.record.proofs.Orders.{before, after, level, Level, turned, order-turned, order-self, order-transitive}
 use Rattle.repeats.specs.Repeats.{member, Topped}
 use Rattle.repeats.specs.Places.{isAfter}
 
 -- by the first byte
 above : (x y : ℕ) (xs ys : List ℕ) → y < x → isAfter (order (x ∷ xs) (y ∷ ys)) ≡ true
-unfolding order choose isAfter
-above x y xs ys h = rw (le-ltb x y (omega arith), lt-ltb y x h)
+unfolding isAfter
+above x y xs ys h = rw (after x y xs ys h)
 
 below : (x y : ℕ) (xs ys : List ℕ) → x < y → isAfter (order (x ∷ xs) (y ∷ ys)) ≡ false
-unfolding order choose isAfter
-below x y xs ys h = rw (lt-ltb x y h)
-
-level : (x y : ℕ) (xs ys : List ℕ) → x ≤ y → y ≤ x → order (x ∷ xs) (y ∷ ys) ≡ order xs ys
-unfolding order choose
-level x y xs ys h k = rw (le-ltb x y k, le-ltb y x h)
+unfolding isAfter
+below x y xs ys h = rw (before x y xs ys h)
 
 -- what is left from i on decides
 module _ (rec : List ℕ) (line : Line) (f : Field) (w : Has rec f) (ys : List ℕ) (n : length ys ≡ f .width) (i : ℕ) where
