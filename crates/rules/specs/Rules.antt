@@ -24,29 +24,29 @@ use Rattle.rules.specs.declared.Context.{Context}
 pub data Test : Type 0 where
   Required : Test
   Digits : Test
-  NoBlank : Test
-  Dashed : Test
-  Plain : Test
-  Month : Test
+  NoBlank : Test  -- field 7
+  Dashed : Test  -- a date CCYY-MM-DD
+  Plain : Test  -- a date YYYYMMDD
+  Month : Test  -- MMYY, field 20
   Routing : Test
   Listed : List (List ℕ) → Test
-  IfListed : List (List ℕ) → Test
-  IfCoded : List (List ℕ) → Test
-  IfPostal : Test
-  IfDigits : Test
+  IfListed : List (List ℕ) → Test  -- if filled
+  IfCoded : List (List ℕ) → Test  -- if filled, unfilled also when all zeros
+  IfPostal : Test  -- if filled five digits, unfilled also when all zeros
+  IfDigits : Test  -- if filled
   InBook : Shelf → Test
-  IfInBook : Shelf → Test
-  IfReporter : Test
-  ReporterBetc : Test
-  AboveZero : Test
-  CheckLimit : Test
-  Symbol : Test
-  Unrepeated : Test
-  HeaderNumber : Test
-  PaymentNumber : Test
-  Serial : Test
-  Count : Test
-  Sum : Test
+  IfInBook : Shelf → Test  -- if filled
+  IfReporter : Test  -- required of a CARS Reporter
+  ReporterBetc : Test  -- the same, and in kind 3 if filled
+  AboveZero : Test  -- an amount above zero
+  CheckLimit : Test  -- an amount of at most 9,999,999,999 cents, and zero if 25 is 1
+  Symbol : Test  -- digits from 1000 to 9998
+  Unrepeated : Test  -- required, no repeat
+  HeaderNumber : Test  -- the same, and 18, 19 and two blanks
+  PaymentNumber : Test  -- the same, and the header's 18, then 58, then eight blanks
+  Serial : Test  -- field 19 plus the number of earlier payments in the batch
+  Count : Test  -- the payment count
+  Sum : Test  -- the sum of the payments
 
 -- the serial number and the counts are those of a batch
 pub record Kept (c : Context) : Type 0 where
@@ -61,6 +61,7 @@ pub record Rule : Type 0 where
   pub letters : List Letter
   pub test : Test
 
+-- 004's first and last position
 abbrev pub span : ℕ → ℕ → Field
 span from to = record { start = from; width = to + 1 - from }
 
@@ -71,60 +72,61 @@ rule field from to letters test = record { field = field; position = span from t
 abbrev pub adjustment : Letter
 adjustment = A
 
-abbrev pub every : List Letter
-every = N ∷ C ∷ W ∷ I ∷ A ∷ []
+-- every letter; every letter but that of check batches; that of check batches
+abbrev pub anyLetter : List Letter
+anyLetter = N ∷ C ∷ W ∷ I ∷ A ∷ []
 
-abbrev pub others : List Letter
-others = N ∷ W ∷ I ∷ A ∷ []
+abbrev pub noCheck : List Letter
+noCheck = N ∷ W ∷ I ∷ A ∷ []
 
-abbrev pub checks : List Letter
-checks = C ∷ []
+abbrev pub check : List Letter
+check = C ∷ []
 
 -- 01 Header
 unfoldable pub header : List Rule
 header =
-    rule 6 3 16 others Unrepeated
-    ∷ rule 6 3 16 checks HeaderNumber
-    ∷ rule 7 17 22 others NoBlank
-    ∷ rule 8 23 32 others Dashed
-    ∷ rule 9 33 52 others Digits
-    ∷ rule 10 53 56 others (Listed voucherForms)
+    rule 6 3 16 noCheck Unrepeated
+    ∷ rule 6 3 16 check HeaderNumber
+    ∷ rule 7 17 22 noCheck NoBlank
+    ∷ rule 8 23 32 noCheck Dashed
+    ∷ rule 9 33 52 noCheck Digits
+    ∷ rule 10 53 56 noCheck (Listed voucherForms)
     ∷ rule 12 60 68 (W ∷ []) Routing
     ∷ rule 13 69 77 (N ∷ []) Routing
-    ∷ rule 14 78 85 others (InBook Locations)
-    ∷ rule 15 86 89 checks Digits
-    ∷ rule 16 90 90 checks (Listed courtesyChecks)
-    ∷ rule 17 91 98 checks Plain
-    ∷ rule 18 99 102 checks Symbol
-    ∷ rule 19 103 110 checks Digits
-    ∷ rule 20 111 114 checks Month
+    ∷ rule 14 78 85 noCheck (InBook Locations)
+    ∷ rule 15 86 89 check Digits
+    ∷ rule 16 90 90 check (Listed courtesyChecks)
+    ∷ rule 17 91 98 check Plain
+    ∷ rule 18 99 102 check Symbol
+    ∷ rule 19 103 110 check Digits
+    ∷ rule 20 111 114 check Month
     ∷ []
 
 -- 01 Detail
 unfoldable pub detail : List Rule
 detail =
-    rule 23 3 22 others Unrepeated
-    ∷ rule 23 3 22 checks PaymentNumber
-    ∷ rule 24 23 42 others AboveZero
-    ∷ rule 24 23 42 checks CheckLimit
-    ∷ rule 25 43 43 checks (Listed voidedChecks)
-    ∷ rule 26 44 90 every Required
-    ∷ rule 28 107 131 every (InBook Types)
-    ∷ rule 29 132 139 checks (InBook Locations)
-    ∷ rule 35 350 351 every (IfInBook States)
-    ∷ rule 36 352 356 every IfPostal
-    ∷ rule 38 361 362 every (IfInBook Countries)
+    rule 23 3 22 noCheck Unrepeated
+    ∷ rule 23 3 22 check PaymentNumber
+    ∷ rule 24 23 42 noCheck AboveZero
+    ∷ rule 24 23 42 check CheckLimit
+    ∷ rule 25 43 43 check (Listed voidedChecks)
+    ∷ rule 26 44 90 anyLetter Required
+    ∷ rule 28 107 131 anyLetter (InBook Types)
+    ∷ rule 29 132 139 check (InBook Locations)
+    ∷ rule 35 350 351 anyLetter (IfInBook States)
+    ∷ rule 36 352 356 anyLetter IfPostal
+    ∷ rule 38 361 362 anyLetter (IfInBook Countries)
     ∷ rule 42 426 434 (W ∷ []) Routing
     ∷ rule 43 435 443 (N ∷ []) Routing
     ∷ rule 44 444 446 (W ∷ []) (Listed businessFunctions)
     ∷ rule 48 506 507 (N ∷ []) (IfCoded transactionCodes)
     ∷ rule 51 526 545 (I ∷ []) (IfListed payerMechanisms)
-    ∷ rule 52 546 548 every (IfInBook Currencies)
+    ∷ rule 52 546 548 anyLetter (IfInBook Currencies)
     ∷ rule 54 560 573 (A ∷ []) Required
     ∷ rule 55 574 593 (A ∷ []) Required
     ∷ rule 56 594 603 (A ∷ []) Dashed
-    ∷ rule 58 654 661 checks Serial
-    ∷ rule 59 662 669 checks Plain
+    ∷ rule 58 654 661 check Serial
+    ∷ rule 59 662 669 check Plain
     ∷ rule 62 674 676 (N ∷ []) (Listed entryClasses)
     ∷ []
 
@@ -135,23 +137,23 @@ party = rule 66 23 172 (N ∷ C ∷ W ∷ I ∷ []) Required ∷ []
 -- 01 Others: DT
 unfoldable pub account : List Rule
 account =
-    rule 80 28 30 every IfReporter
-    ∷ rule 84 40 43 every IfReporter
-    ∷ rule 85 44 46 every IfReporter
-    ∷ rule 86 47 54 every ReporterBetc
-    ∷ rule 87 55 74 every Digits
+    rule 80 28 30 anyLetter IfReporter
+    ∷ rule 84 40 43 anyLetter IfReporter
+    ∷ rule 85 44 46 anyLetter IfReporter
+    ∷ rule 86 47 54 anyLetter ReporterBetc
+    ∷ rule 87 55 74 anyLetter Digits
     ∷ []
 
 -- 01 Others: DP; a payment's only DP may leave it blank
 unfoldable pub procurement : List Rule
-procurement = rule 96 131 150 every Digits ∷ []
+procurement = rule 96 131 150 anyLetter Digits ∷ []
 
 unfoldable pub loneProcurement : List Rule
-loneProcurement = rule 96 131 150 every IfDigits ∷ []
+loneProcurement = rule 96 131 150 anyLetter IfDigits ∷ []
 
 -- 01 Others: BT
 unfoldable pub trailer : List Rule
-trailer = rule 99 3 10 every Count ∷ rule 100 11 30 every Sum ∷ []
+trailer = rule 99 3 10 anyLetter Count ∷ rule 100 11 30 anyLetter Sum ∷ []
 
 -- fields that a test looks at beside its own: 18, 19, 25 and 58
 abbrev pub symbolField : Field
