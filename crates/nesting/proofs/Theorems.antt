@@ -33,11 +33,11 @@ first-named rs k t i n = go (ltb i k) refl
 
 -- one record is named
 one-named : (rs : List Record) (k j : ℕ) → RefusedAt rs k → RefusedAt rs j → k ≤ j
-one-named rs k j t u = go (ltb j k) refl
+one-named rs k j t u = go (ltb (length rs) j) refl
   where
-    go : (b : Bool) → ltb j k ≡ b → k ≤ j
-    go true e = let h = ltb-true j k e in absurd (u .here (omega (arith, t .to)) (t .before j h))
-    go false e = ltb-false j k e
+    go : (b : Bool) → ltb (length rs) j ≡ b → k ≤ j
+    go true e = omega (arith, ltb-true (length rs) j e, t .to)
+    go false e = first-named rs k t j (u .here (ltb-false (length rs) j e))
 
 -- one answer only
 pub one-answer : (rs : List Record) (v w : Verdict) → Nested rs v → Nested rs w → v ≡ w

@@ -1,8 +1,8 @@
 -- A look at one record: the greatest number so far stays the greatest, and what stands after it repeats nothing.
 -- Assumes nothing.
-use mathlib.Core.Path.{_≡_, refl, sym, ap}
+use mathlib.Core.Path.{_≡_, refl, sym}
 use mathlib.Core.Bool.{Bool, true, false}
-use mathlib.Core.List.{List, [], _∷_, _++_}
+use mathlib.Core.List.{List, [], _∷_, _++_, append-nil}
 use Prim.Native.Nat.{ℕ, _+_}
 use Rattle.record.specs.Choice.{_and_, choose}
 use Rattle.record.specs.Value.{held}
@@ -28,16 +28,12 @@ unfolding numbers
 numbers-snoc sort [] r = refl
 numbers-snoc sort (x ∷ rs) r = rw (numbers-snoc sort rs r) (choose-append (isOf sort x) (held x (numbering sort)) (numbers sort rs) _)
 
-append-none : {A : Type 0} (xs : List A) → xs ++ [] ≡ xs
-append-none [] = refl
-append-none (x ∷ xs) = ap (_∷_ x) (append-none xs)
-
 topped-by : (a b : Bool) (x greatest : List ℕ) (ys : List (List ℕ)) → isAfter (order x greatest) ≡ b → Topped greatest ys
     → Topped (choose (a and b) x greatest) (ys ++ choose a (x ∷ []) [])
 unfolding choose _and_
 topped-by true true x greatest ys e t = topped-raise greatest x ys t e
 topped-by true false x greatest ys e t = topped-keep greatest x ys t e
-topped-by false b x greatest ys e t = rw (append-none ys) t
+topped-by false b x greatest ys e t = rw (append-nil ys) t
 
 module _ (sort : Sort) (first place : ℕ) (xs greatest : List ℕ) (t : Topped greatest (numbers sort (cut first place xs))) where
   pub topped-next : Topped (raised sort (recordAt first place xs) greatest) (numbers sort (cut first (place + 1) xs))
