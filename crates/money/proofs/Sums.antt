@@ -1,7 +1,7 @@
 -- The sum of a list: adding one amount after another gives exactly the amount of the sum, and up to 65,535 amounts of twenty digits never wrap.
 -- Assumes nothing.
 use mathlib.Core.Path.{_≡_, refl, ap, _∙_}
-use mathlib.Core.Bool.{Bool, true, false, Bool·beq}
+use mathlib.Core.Bool.{Bool, true, false}
 use mathlib.Core.List.{List, [], _∷_, _++_}
 use Prim.Native.Nat.{ℕ, _+_, _*_, _≤_, _<_}
 use native.Mathlib.Nat.{add-assoc}
@@ -10,11 +10,11 @@ use lib.ListN.{length}
 use Rattle.record.specs.Choice.{choose}
 use Rattle.money.specs.declared.Amount.{Amount}
 use Rattle.money.specs.declared.Signed.{Signed}
-use Rattle.money.specs.Money.{worth, split, total, Fit, entered}
+use Rattle.money.specs.Money.{worth, split, total, Fit, side, entered}
 use Rattle.money.proofs.Amounts.{worth-split, split-whole}
 
 -- amounts added one after another, as `plus` promises each step
-pub added : Amount → List ℕ → Amount
+unfoldable pub added : Amount → List ℕ → Amount
 added a [] = a
 added a (x ∷ xs) = added (split (worth a + x)) xs
 
@@ -45,13 +45,8 @@ pub fits : (xs : List ℕ) (x : ℕ) → Below xs → x < 100000000000000000000 
 fits xs x b h n =
     record { left = split-whole (total xs); right = split-whole x; room = rw (worth-split, worth-split) (omega (arith, total-room xs b)) }
 
--- the amounts of one side of a signed list: true counts negative
-pub side : Bool → List (Bool × ℕ) → List ℕ
-side b [] = []
-side b (x ∷ xs) = choose (Bool·beq b (x .0)) (x .1 ∷ side b xs) (side b xs)
-
 -- signed amounts entered one after another, as `enter` promises each step
-pub enteredAll : Signed → List (Bool × ℕ) → Signed
+unfoldable pub enteredAll : Signed → List (Bool × ℕ) → Signed
 enteredAll s [] = s
 enteredAll s (x ∷ xs) = enteredAll (entered s (x .0) (x .1)) xs
 

@@ -1,6 +1,6 @@
 -- Amounts of money in cents, exact beyond 64 bits (01 Report).
 use Prim.Native.Nat.{ℕ, _+_, _*_, _/_, _%_, _<_}
-use mathlib.Core.Bool.{Bool, true, false}
+use mathlib.Core.Bool.{Bool, true, false, Bool·beq}
 use mathlib.Core.List.{List, [], _∷_}
 use lib.Dec.{eqb}
 use Rattle.record.specs.Choice.{choose}
@@ -39,6 +39,11 @@ pub record Fit (a b : Amount) : Type 0 where
   pub left : Whole a
   pub right : Whole b
   pub room : worth a + worth b < limit
+
+-- the amounts of one side of a signed list: true counts negative, false positive (01 Sums)
+unfoldable pub side : Bool → List (Bool × ℕ) → List ℕ
+side b [] = []
+side b (x ∷ xs) = choose (Bool·beq b (x .0)) (x .1 ∷ side b xs) (side b xs)
 
 -- a signed sum with one amount more, on its positive or its negative side (01 Sums)
 unfoldable pub entered : Signed → Bool → ℕ → Signed

@@ -16,7 +16,7 @@ after-append f [] ys = refl
 after-append f (x ∷ xs) ys = after-append (noted f x) xs ys
 
 -- a reason stays
-stays : (f : Finding) (xs : List Finding) → eqb (f .reason) 0 ≡ false → after f xs ≡ f
+pub stays : (f : Finding) (xs : List Finding) → eqb (f .reason) 0 ≡ false → after f xs ≡ f
 unfolding after noted choose
 stays f [] e = refl
 stays f (x ∷ xs) e = rw e (stays f xs e)

@@ -23,7 +23,7 @@ unfolding choose
 choose-append true x xs ys = refl
 choose-append false x xs ys = refl
 
-numbers-snoc : (sort : Sort) (rs : List Record) (r : Record) → numbers sort (rs ++ r ∷ []) ≡ numbers sort rs ++ choose (isOf sort r) (held r (numbering sort) ∷ []) []
+pub numbers-snoc : (sort : Sort) (rs : List Record) (r : Record) → numbers sort (rs ++ r ∷ []) ≡ numbers sort rs ++ choose (isOf sort r) (held r (numbering sort) ∷ []) []
 unfolding numbers
 numbers-snoc sort [] r = refl
 numbers-snoc sort (x ∷ rs) r = rw (numbers-snoc sort rs r) (choose-append (isOf sort x) (held x (numbering sort)) (numbers sort rs) _)

@@ -1,0 +1,157 @@
+-- Each function of the walk does what its definition says: the parts of a result, put together.
+-- Assumes nothing.
+use mathlib.Core.Path.{_≡_, sym, ap, _∙_}
+use mathlib.Core.Bool.{Bool, true, false}
+use mathlib.Core.List.{List, _++_}
+use Prim.Native.Nat.{ℕ, _+_}
+use lib.Dec.{eqb}
+use borrow.Author.Tests.{eq-eqb, ne-eqb}
+use Rattle.record.specs.declared.codes.Letter.{Letter}
+use Rattle.record.specs.declared.codes.Letter.the-variants.{N}
+use Rattle.record.specs.declared.codes.Code.{Code}
+use Rattle.record.specs.Choice.{_and_, choose}
+use Rattle.record.specs.Value.{held}
+use Rattle.record.specs.Tests.{blank}
+use Rattle.record.specs.Codes.{codeOf}
+use Rattle.money.specs.declared.Amount.{Amount}
+use Rattle.money.specs.Money.{worth, split, cents}
+use Rattle.money.proofs.Amounts.{worth-split}
+use Rattle.book.specs.declared.Book.{Book}
+use Rattle.book.specs.Book.{flagOf}
+use Rattle.nesting.specs.Division.{Record}
+use Rattle.repeats.specs.declared.Repeat.{Repeat}
+use Rattle.repeats.specs.declared.Repeat.the-variants.{At, Nowhere}
+use Rattle.reasons.specs.declared.Finding.{Finding}
+use Rattle.reasons.specs.Findings.{sound, after}
+use Rattle.reasons.specs.declared.lookups.Shelf.the-variants.{Locations}
+use Rattle.reasons.specs.Reasons.{entry}
+use Rattle.reasons.proofs.Firsts.{after-append}
+use Rattle.rules.specs.declared.Context.{Context}
+use Rattle.rules.specs.Rules.{Rule, symbolField, among, check, header, detail, party, account, procurement, loneProcurement, rulesFor, findings}
+use Rattle.batch.specs.declared.payment.Open.{Open}
+use Rattle.batch.specs.declared.walk.Header.{Header}
+use Rattle.batch.specs.declared.walk.State.{State}
+use Rattle.batch.specs.Batch.{summaryTotal, agencyLocation, amount, accountAmount, procurementAmount, letterIn, firstSerial, isReporter, isCredit}
+use Rattle.batch.specs.Walk.{isAt, opened, withAccount, withProcurement, ended, contextOf, knowing, head, opening, reporterIn, nextProcurement, last, detailed, partied, accounted, procured, trailed, stepOf}
+
+-- which record repeats
+pub repeat-at : (r : Repeat) (k n : ℕ) (x : Bool) → r ≡ At k → x ≡ eqb k n → x ≡ isAt r n
+unfolding isAt
+repeat-at r k n x e h = rw e h
+
+pub repeat-nowhere : (r : Repeat) (n : ℕ) → r ≡ Nowhere → false ≡ isAt r n
+unfolding isAt
+repeat-nowhere r n e = rw e
+
+-- what is asked of a letter is what is asked of the letter that is known
+pub letter-is : (l m : Letter) (x : Bool) → l ≡ m → x ≡ among m check → x ≡ among l check
+letter-is l m x e h = rw e h
+
+-- two tests
+pub both : (a b x : Bool) → a ≡ true → b ≡ x → (a and b) ≡ x
+unfolding _and_
+both a b x e h = rw e h
+
+pub not-first : (a b : Bool) → a ≡ false → (a and b) ≡ false
+unfolding _and_
+not-first a b e = rw e
+
+-- a sum that was added is the sum that is asked for
+pub sum-told : (a b : Amount) (x : ℕ) (r t : Bool) → a ≡ split x → r ≡ eqb (worth a) (worth b) → r ≡ t → eqb x (worth b) ≡ t
+sum-told a b x r t e h k = rw (← worth-split x, ← e) (sym h ∙ k)
+
+-- some findings, and then others
+pub then : (f g z : Finding) (xs ys : List Finding) → g ≡ after f xs → z ≡ after g ys → z ≡ after f (xs ++ ys)
+then f g z xs ys e h = h ∙ ap (λ (k : Finding). after k ys) e ∙ sym (after-append f xs ys)
+
+-- a payment with a first DP, and with a later one
+module _ (o : Open) (b : Bool) (n : ℕ) (a : Amount) where
+  abbrev with-blank : Bool → Open
+  with-blank bare =
+      record {
+        number = o .number;
+        context = o .context;
+        amount = o .amount;
+        accounts = o .accounts;
+        sum = o .sum;
+        procurements = o .procurements + 1;
+        blank = bare;
+        procured = a;
+      }
+
+  pub procured-first : o .procurements ≡ 0 → a ≡ split (worth (o .procured) + n) → with-blank b ≡ withProcurement o b n
+  unfolding withProcurement choose
+  procured-first e h = rw (eq-eqb (o .procurements) 0 e, h)
+
+  pub procured-later : (o .procurements ≡ 0 → ⊥) → a ≡ split (worth (o .procured) + n) → with-blank (o .blank) ≡ withProcurement o b n
+  unfolding withProcurement choose
+  procured-later e h = rw (ne-eqb (o .procurements) 0 e, h)
+
+module _ (bytes : List ℕ) (book : Book) (n : ℕ) (r : Record) where
+  -- the rules of a first DP, and of a later one
+  module _ (c : Context) (f z : Finding) (k : ℕ) where
+    pub own-lone : k ≡ 0 → z ≡ after f (findings bytes book c n r (rulesFor N loneProcurement)) → z ≡ after f (findings bytes book c n r (rulesFor N (choose (eqb k 0) loneProcurement procurement)))
+    unfolding choose
+    own-lone e h = rw (eq-eqb k 0 e) h
+
+    pub own-other : (k ≡ 0 → ⊥) → z ≡ after f (findings bytes book c n r (rulesFor N procurement)) → z ≡ after f (findings bytes book c n r (rulesFor N (choose (eqb k 0) loneProcurement procurement)))
+    unfolding choose
+    own-other e h = rw (ne-eqb k 0 e) h
+
+  -- the state after a header
+  abbrev zero-amount : Amount
+  zero-amount = record { high = 0; low = 0 }
+
+  pub batch-opened : (repeats : Bool) (h : Header) (f : Finding) (o : Open) → h ≡ head bytes book n r
+      → f ≡ after sound (findings bytes book (record { repeats = repeats; reporter = false; symbol = h .symbol; serial = h .serial; payments = 0; total = zero-amount }) n r (rulesFor (h .letter) header))
+      → o ≡ opened n (record { repeats = repeats; reporter = false; symbol = h .symbol; serial = h .serial; payments = 0; total = zero-amount }) zero-amount
+      → record { finding = f; header = h; payment = o; payments = 0; total = zero-amount; accounts = 0 } ≡ opening bytes book repeats n r
+  unfolding opening head split
+  batch-opened repeats h f o e d k = rw (d, k, e)
+
+  -- what the header says
+  pub head-read : (c : Code) (l : Letter) (reporter : Bool) (symbol : List ℕ) (serial : ℕ) (a : Amount) → c ≡ codeOf r → l ≡ letterIn c → reporter ≡ flagOf (entry bytes book Locations (held r agencyLocation))
+      → symbol ≡ held r symbolField → serial ≡ firstSerial r → a ≡ split (cents (held r summaryTotal))
+      → record { number = n; letter = l; reporter = reporter; symbol = symbol; serial = serial; amount = a } ≡ head bytes book n r
+  unfolding head isReporter
+  head-read c l reporter symbol serial a p q u v w x = rw (x, w, v, u, q, p)
+
+  -- the rules see the context that was put together
+  pub in-context : (c d : Context) (f z : Finding) (rs : List Rule) → c ≡ d → z ≡ after f (findings bytes book c n r rs) → z ≡ after f (findings bytes book d n r rs)
+  in-context c d f z rs e h = rw (← e) h
+
+  -- the state after each of the other records
+  module _ (s : State) where
+    pub detail-taken : (repeats reporter : Bool) (c : Context) (g f : Finding) (a t : Amount) (o : Open) → reporter ≡ reporterIn bytes book (s .header) r → c ≡ contextOf s repeats reporter
+        → g ≡ after (s .finding) (ended (s .payment)) → f ≡ after g (findings bytes book c n r (rulesFor (s .header .letter) detail))
+        → a ≡ split (cents (held r amount)) → o ≡ opened n c a → t ≡ split (worth (s .total) + worth a)
+        → record { finding = f; header = s .header; payment = o; payments = s .payments + 1; total = t; accounts = s .accounts } ≡ detailed bytes book s n r repeats
+    unfolding detailed
+    detail-taken repeats reporter c g f a t o p q u v w x y = rw (y, x, w, v, u, q, p, worth-split)
+
+  module _ (s z : State) where
+    pub party-taken : (f : Finding) → f ≡ after (s .finding) (findings bytes book (s .payment .context) n r (rulesFor (s .header .letter) party))
+        → z ≡ knowing s f (s .payment) (s .accounts) → z ≡ partied bytes book s n r
+    unfolding partied
+    party-taken f e h = h ∙ rw e
+
+    pub account-taken : (f : Finding) (credit : Bool) (a : Amount) (o : Open) → f ≡ after (s .finding) (findings bytes book (s .payment .context) n r (rulesFor N account))
+        → credit ≡ isCredit bytes book r → a ≡ split (cents (held r accountAmount)) → o ≡ withAccount (s .payment) credit (worth a)
+        → z ≡ knowing s f o (s .accounts + 1) → z ≡ accounted bytes book s n r
+    unfolding accounted
+    account-taken f credit a o e c d k h = h ∙ rw (k, e, c, d, worth-split)
+
+    pub procurement-taken : (f : Finding) (bare : Bool) (a : Amount) (o : Open) → f ≡ after (s .finding) (nextProcurement bytes book (s .payment) n r)
+        → bare ≡ blank (held r procurementAmount) → a ≡ split (cents (held r procurementAmount)) → o ≡ withProcurement (s .payment) bare (worth a)
+        → z ≡ knowing s f o (s .accounts) → z ≡ procured bytes book s n r
+    unfolding procured
+    procurement-taken f bare a o e c d k h = h ∙ rw (k, e, c, d, worth-split)
+
+    pub trailer-taken : (g f : Finding) → g ≡ after (s .finding) (ended (s .payment)) → f ≡ after g (last bytes book s n r)
+        → z ≡ knowing s f (s .payment) (s .accounts) → z ≡ trailed bytes book s n r
+    unfolding trailed
+    trailer-taken g f e d h = h ∙ rw (d, e)
+
+    -- the step of the code that is known
+    pub stepped : (c d : Code) (repeats : Bool) → c ≡ codeOf r → c ≡ d → z ≡ stepOf bytes book d s n r repeats → z ≡ stepOf bytes book (codeOf r) s n r repeats
+    stepped c d repeats e k h = h ∙ ap (λ (x : Code). stepOf bytes book x s n r repeats) (sym k ∙ e)

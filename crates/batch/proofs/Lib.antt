@@ -1,0 +1,10 @@
+mod Rooms
+mod Laws
+mod Marked
+mod Repeated
+mod Ends
+mod Adequate
+mod Turns
+mod Judged
+pub mod Examples
+pub mod Unique

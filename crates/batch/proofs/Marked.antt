@@ -1,0 +1,26 @@
+-- The findings of a batch in which the details that repeat are marked by their record numbers, as the walk is told of them.
+-- Assumes nothing.
+use mathlib.Core.Bool.{Bool, false}
+use mathlib.Core.List.{List, [], _∷_, _++_}
+use Prim.Native.Nat.{ℕ, _+_}
+use Rattle.book.specs.declared.Book.{Book}
+use Rattle.nesting.specs.Division.{Record, Payment, Batch}
+use Rattle.reasons.specs.declared.Finding.{Finding}
+use Rattle.rules.specs.Rules.{header, trailer, rulesFor, findings}
+use Rattle.batch.specs.Batch.{letterOf, size, sizes, context, reporter, payment, tooMany, summary}
+
+module _ (bytes : List ℕ) (book : Book) where
+  unfoldable pub markedPayments : (ℕ → Bool) → Record → ℕ → List Payment → List Payment → List Finding
+  markedPayments marks h n earlier [] = []
+  markedPayments marks h n earlier (p ∷ ps) =
+      payment bytes book (letterOf h) (context h (marks n) (reporter bytes book h (p .detail)) earlier) n p
+      ++ markedPayments marks h (n + size p) (earlier ++ p ∷ []) ps
+
+  unfoldable pub markedFindings : Bool → (ℕ → Bool) → ℕ → Batch → List Finding
+  markedFindings repeats marks n b =
+      findings bytes book (context (b .header) repeats false []) n (b .header) (rulesFor (letterOf (b .header)) header)
+      ++ (markedPayments marks (b .header) (n + 1) [] (b .payments)
+      ++ (tooMany n (b .payments)
+      ∷ (findings bytes book (context (b .header) false false (b .payments)) (n + 1 + sizes (b .payments)) (b .trailer) (rulesFor (letterOf (b .header)) trailer)
+      ++ summary n (b .header) (b .payments)
+      ∷ [])))

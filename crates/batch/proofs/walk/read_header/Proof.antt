@@ -1,0 +1,40 @@
+use Rattle.batch.proofs.Laws.{head-read}
+use borrow.Author.Needs.{needs}
+use Rattle.batch.proofs.walk.read_header.Statement.{statement}
+use Rattle.batch.proofs.walk.read_header.Tie as tie
+
+code-of-requires : tie.Need-code-of-requires
+code-of-requires c κs = search needs
+
+letter-in-requires : tie.Need-letter-in-requires
+letter-in-requires c κs = search needs
+
+is-flagged-requires : tie.Need-is-flagged-requires
+is-flagged-requires c κs = search needs
+
+symbol-of-requires : tie.Need-symbol-of-requires
+symbol-of-requires c κs = search needs
+
+first-serial-requires : tie.Need-first-serial-requires
+first-serial-requires c κs = search needs
+
+field-amount-requires : tie.Need-field-amount-requires
+field-amount-requires c κs = search needs
+
+returns : tie.Need-returns
+returns c =
+    head-read _ _ _ _ _ _ _ _ _ _ (c .before .before .before .before .before .code-of .ensures)
+    (c .before .before .before .before .letter-in .ensures) (c .before .before .before .is-flagged .ensures)
+    (c .before .before .symbol-of .ensures) (c .before .first-serial .ensures) (c .field-amount .ensures)
+
+pub read-header-spec : {M : Type 1} → statement M
+read-header-spec =
+    tie.close
+    (tie.spec
+    code-of-requires
+    letter-in-requires
+    is-flagged-requires
+    symbol-of-requires
+    first-serial-requires
+    field-amount-requires
+    returns)

@@ -1,0 +1,445 @@
+// The walk over a batch: what is known before a record, and after it. A step sees one record, never those around it.
+use crate::payment;
+use crate::payment::Open;
+use book::Book;
+use money::Amount;
+use reasons::Finding;
+use reasons::lookups;
+use reasons::lookups::Shelf;
+use record::Line;
+use record::codes::Code;
+use record::codes::Letter;
+use record::codes::code_of;
+use record::layout::*;
+use rules::Context;
+use rules::detail::detail_rules;
+use rules::header::header_rules;
+use rules::others::account_rules;
+use rules::others::lone_procurement_rules;
+use rules::others::party_rules;
+use rules::others::procurement_rules;
+use rules::others::trailer_rules;
+ghost use mathlib.Core.Path.{_≡_};
+ghost use mathlib.Core.Bool.{false};
+ghost use Prim.Native.Nat.{_≤_};
+ghost use lib.Dec.{eqb, leb};
+ghost use lib.ListN.{length};
+ghost use Rattle.record.specs.declared.codes.Letter.the-variants.{N};
+ghost use Rattle.record.specs.Choice.{choose};
+ghost use Rattle.record.specs.Value.{seen};
+ghost use Rattle.record.specs.Codes.{codeOf};
+ghost use Rattle.money.specs.Money.{worth, Whole};
+ghost use Rattle.book.specs.Book.{Usable};
+ghost use Rattle.reasons.specs.Findings.{after};
+ghost use Rattle.rules.specs.Rules.{Kept, among, check, procurement, loneProcurement, rulesFor, findings};
+ghost use Rattle.batch.specs.Batch.{letterIn, firstSerial, isCredit};
+ghost use Rattle.batch.specs.Walk.{Room, loneBlank, head, opening, contextOf, knowing, reporterIn, nextProcurement, last, detailed, partied, accounted, procured, trailed, stepOf};
+
+// What the header says: its record, the batch's letter, the CARS Reporter of field 14, fields 18 and 19, and the total of field 9.
+pub(crate) struct Header {
+    pub(crate) number: usize,
+    pub(crate) letter: Letter,
+    pub(crate) reporter: bool,
+    pub(crate) symbol: [u8; 4],
+    pub(crate) serial: u64,
+    pub(crate) amount: Amount,
+}
+
+// What is known after a record: the first finding, what the header says, the open payment, the batch's payments, total and DT so far.
+pub(crate) struct State {
+    pub(crate) finding: Finding,
+    pub(crate) header: Header,
+    pub(crate) payment: Open,
+    pub(crate) payments: u64,
+    pub(crate) total: Amount,
+    pub(crate) accounts: usize,
+}
+
+// The letter of a code.
+fn letter_in(code: Code) -> Letter
+    ensures { λ r. ⌜ r ≡ letterIn code ⌝ }
+{
+    match code {
+        Code::FileHeader => Letter::N,
+        Code::Batch(letter) => letter,
+        Code::Detail(letter) => letter,
+        Code::Party => Letter::N,
+        Code::Account => Letter::N,
+        Code::Procurement => Letter::N,
+        Code::BatchTrailer => Letter::N,
+        Code::FileTrailer => Letter::N,
+        Code::Unknown => Letter::N,
+    }
+}
+
+// The letter of check batches.
+fn is_check(letter: Letter) -> bool
+    ensures { λ r. ⌜ r ≡ among letter check ⌝ }
+{
+    match letter {
+        Letter::N => false,
+        Letter::C => true,
+        Letter::W => false,
+        Letter::I => false,
+        Letter::A => false,
+    }
+}
+
+// A header's first serial number (field 19).
+fn first_serial(rec: &[u8], line: Line) -> u64
+    requires { ⌜ length (now rec) ≡ 850 ⌝ }
+    ensures { λ r. ⌜ r ≡ firstSerial (seen line (now (rec .entry))) ⌝ }
+{
+    if record::field_digits(rec, line, CHECK_FIRST_SERIAL_NUMBER) {
+        return record::field_number(rec, line, CHECK_FIRST_SERIAL_NUMBER);
+    }
+    0
+}
+
+fn read_header(book: &[u8], shelves: Book, rec: &[u8], line: Line) -> Header
+    requires { ⌜ Usable (now book) shelves × (length (now rec) ≡ 850) ⌝ }
+    ensures { λ r. ⌜ r ≡ head (now (book .entry)) shelves (line .number) (seen line (now (rec .entry))) ⌝ }
+{
+    let number = line.number;
+    let code = code_of(rec, line);
+    let letter = letter_in(code);
+    let reporter = lookups::is_flagged(
+        book,
+        shelves,
+        Shelf::Locations,
+        rec,
+        line,
+        AGENCY_LOCATION_CODE,
+    );
+    let symbol = rules::symbol_of(rec, line);
+    let serial = first_serial(rec, line);
+    let amount = money::field_amount(rec, line, SUMMARY_TOTAL_AMOUNT);
+    Header {
+        number,
+        letter,
+        reporter,
+        symbol,
+        serial,
+        amount,
+    }
+}
+
+// The state after the header, whose schedule number repeats an earlier batch's or not. Before the first payment an empty one of no
+// reporter stands open, with which nothing is wrong.
+pub(crate) fn open_batch(book: &[u8], shelves: Book, rec: &[u8], line: Line, repeats: bool) -> State
+    requires { ⌜ Usable (now book) shelves × (length (now rec) ≡ 850) ⌝ }
+    ensures { λ r. ⌜ r ≡ opening (now (book .entry)) shelves repeats (line .number) (seen line (now (rec .entry))) ⌝ }
+{
+    let header = read_header(book, shelves, rec, line);
+    let symbol = header.symbol;
+    let letter = header.letter;
+    let payments: u64 = 0;
+    let none = Amount { high: 0, low: 0 };
+    let context = Context {
+        repeats,
+        reporter: false,
+        symbol,
+        serial: header.serial,
+        payments,
+        total: none,
+    };
+    let sound = Finding {
+        reason: 0,
+        record_number: 0,
+        field: 0,
+    };
+    let finding = header_rules(sound, book, shelves, rec, line, letter, context);
+    let payment = payment::begin(line.number, context, none);
+    State {
+        finding,
+        header,
+        payment,
+        payments,
+        total: none,
+        accounts: 0,
+    }
+}
+
+// What the rules of the next record know of the batch.
+fn context_of(state: State, repeats: bool, reporter: bool) -> Context
+    ensures { λ r. ⌜ r ≡ contextOf state repeats reporter ⌝ }
+{
+    let header = state.header;
+    let symbol = header.symbol;
+    let total = state.total;
+    Context {
+        repeats,
+        reporter,
+        symbol,
+        serial: header.serial,
+        payments: state.payments,
+        total,
+    }
+}
+
+// The payer of a payment is a CARS Reporter: by the header's location, or in a check batch by the detail's (field 29).
+fn is_reporter(book: &[u8], shelves: Book, rec: &[u8], line: Line, header: Header) -> bool
+    requires { ⌜ Usable (now book) shelves × (length (now rec) ≡ 850) ⌝ }
+    ensures { λ r. ⌜ r ≡ reporterIn (now (book .entry)) shelves header (seen line (now (rec .entry))) ⌝ }
+{
+    let letter = header.letter;
+    if is_check(letter) {
+        return lookups::is_flagged(
+            book,
+            shelves,
+            Shelf::Locations,
+            rec,
+            line,
+            PAYMENT_LOCATION_CODE,
+        );
+    }
+    header.reporter
+}
+
+// A detail: the payment before it ends, and its own begins.
+fn take_detail(
+    book: &[u8],
+    shelves: Book,
+    rec: &[u8],
+    line: Line,
+    state: State,
+    repeats: bool,
+) -> State
+    requires { ⌜ Usable (now book) shelves × (length (now rec) ≡ 850) × Room (line .number) state × (line .number ≤ 65535) ⌝ }
+    ensures { λ r. ⌜ r ≡ detailed (now (book .entry)) shelves state (line .number) (seen line (now (rec .entry))) repeats ⌝ }
+{
+    let header = state.header;
+    let letter = header.letter;
+    let known = state.finding;
+    let closing = state.payment;
+    let before = state.total;
+    let reporter = is_reporter(book, shelves, rec, line, header);
+    let context = context_of(state, repeats, reporter);
+    let ended = payment::end(known, closing);
+    let finding = detail_rules(ended, book, shelves, rec, line, letter, context);
+    let amount = money::field_amount(rec, line, AMOUNT);
+    let payment = payment::begin(line.number, context, amount);
+    let payments = state.payments + 1;
+    let total = money::plus(before, amount);
+    State {
+        finding,
+        header,
+        payment,
+        payments,
+        total,
+        accounts: state.accounts,
+    }
+}
+
+// The state with another finding, another payment and another count of DT.
+fn know(state: State, finding: Finding, payment: Open, accounts: usize) -> State
+    ensures { λ r. ⌜ r ≡ knowing state finding payment accounts ⌝ }
+{
+    let header = state.header;
+    let total = state.total;
+    State {
+        finding,
+        header,
+        payment,
+        payments: state.payments,
+        total,
+        accounts,
+    }
+}
+
+fn take_party(book: &[u8], shelves: Book, rec: &[u8], line: Line, state: State) -> State
+    requires { ⌜ Usable (now book) shelves × (length (now rec) ≡ 850) × Room (line .number) state × (line .number ≤ 65535) ⌝ }
+    ensures { λ r. ⌜ r ≡ partied (now (book .entry)) shelves state (line .number) (seen line (now (rec .entry))) ⌝ }
+{
+    let header = state.header;
+    let letter = header.letter;
+    let known = state.finding;
+    let payment = state.payment;
+    let context = payment.context;
+    let finding = party_rules(known, book, shelves, rec, line, letter, context);
+    know(state, finding, payment, state.accounts)
+}
+
+// The BETC is a credit in the book; a blank one is none. The record's own word for it (field 88) is not read.
+fn is_credit(book: &[u8], shelves: Book, rec: &[u8], line: Line) -> bool
+    requires { ⌜ Usable (now book) shelves × (length (now rec) ≡ 850) ⌝ }
+    ensures { λ r. ⌜ r ≡ isCredit (now (book .entry)) shelves (seen line (now (rec .entry))) ⌝ }
+{
+    if record::field_blank(rec, line, BUSINESS_EVENT_TYPE_CODE) {
+        return false;
+    }
+    lookups::is_flagged(
+        book,
+        shelves,
+        Shelf::Betcs,
+        rec,
+        line,
+        BUSINESS_EVENT_TYPE_CODE,
+    )
+}
+
+fn take_account(book: &[u8], shelves: Book, rec: &[u8], line: Line, state: State) -> State
+    requires { ⌜ Usable (now book) shelves × (length (now rec) ≡ 850) × Room (line .number) state × (line .number ≤ 65535) ⌝ }
+    ensures { λ r. ⌜ r ≡ accounted (now (book .entry)) shelves state (line .number) (seen line (now (rec .entry))) ⌝ }
+{
+    let known = state.finding;
+    let before = state.payment;
+    let context = before.context;
+    let finding = account_rules(known, book, shelves, rec, line, context);
+    let credit = is_credit(book, shelves, rec, line);
+    let amount = money::field_amount(rec, line, ACCOUNT_AMOUNT);
+    let payment = payment::with_account(before, credit, amount);
+    let accounts = state.accounts + 1;
+    know(state, finding, payment, accounts)
+}
+
+// The rules of a DP that may be the payment's only one, or is not.
+fn own_rules(
+    known: Finding,
+    book: &[u8],
+    shelves: Book,
+    rec: &[u8],
+    line: Line,
+    payment: Open,
+) -> Finding
+    requires { ⌜ Usable (now book) shelves × (length (now rec) ≡ 850) × Kept (payment .context) ⌝ }
+    ensures { λ r. ⌜ r ≡ after known (findings (now (book .entry)) shelves (payment .context) (line .number) (seen line (now (rec .entry))) (rulesFor N (choose (eqb (payment .procurements) 0) loneProcurement procurement))) ⌝ }
+{
+    let context = payment.context;
+    if payment.procurements == 0 {
+        return lone_procurement_rules(known, book, shelves, rec, line, context);
+    }
+    procurement_rules(known, book, shelves, rec, line, context)
+}
+
+// What a DP finds. Where it is the second, a blank first one is at fault too: it was let pass as the only one.
+fn procurement_findings(
+    known: Finding,
+    book: &[u8],
+    shelves: Book,
+    rec: &[u8],
+    line: Line,
+    payment: Open,
+) -> Finding
+    requires { ⌜ Usable (now book) shelves × (length (now rec) ≡ 850) × Kept (payment .context) × (1 ≤ line .number) ⌝ }
+    ensures { λ r. ⌜ r ≡ after known (nextProcurement (now (book .entry)) shelves payment (line .number) (seen line (now (rec .entry)))) ⌝ }
+{
+    let earlier = Line {
+        number: line.number - 1,
+    };
+    let reason = first_reason(payment);
+    let after_first = reasons::note(known, reason, earlier, 96);
+    own_rules(after_first, book, shelves, rec, line, payment)
+}
+
+// 1 where the payment's one DP so far is blank.
+fn first_reason(payment: Open) -> usize
+    ensures { λ r. ⌜ r ≡ choose (loneBlank payment) 1 0 ⌝ }
+{
+    if payment::is_lone_blank(payment) {
+        return 1;
+    }
+    0
+}
+
+fn take_procurement(book: &[u8], shelves: Book, rec: &[u8], line: Line, state: State) -> State
+    requires { ⌜ Usable (now book) shelves × (length (now rec) ≡ 850) × Room (line .number) state × (line .number ≤ 65535) ⌝ }
+    ensures { λ r. ⌜ r ≡ procured (now (book .entry)) shelves state (line .number) (seen line (now (rec .entry))) ⌝ }
+{
+    let known = state.finding;
+    let before = state.payment;
+    let finding = procurement_findings(known, book, shelves, rec, line, before);
+    let blank = record::field_blank(rec, line, PROCUREMENT_AMOUNT);
+    let amount = money::field_amount(rec, line, PROCUREMENT_AMOUNT);
+    let payment = payment::with_procurement(before, blank, amount);
+    know(state, finding, payment, state.accounts)
+}
+
+// 12: more than 1,000 DT in the batch.
+fn account_limit(accounts: usize) -> usize
+    ensures { λ r. ⌜ r ≡ choose (leb accounts 1000) 0 12 ⌝ }
+{
+    if accounts <= 1000 {
+        return 0;
+    }
+    12
+}
+
+// 14: field 9 is not the sum of the payments, except in BC.
+fn summary_reason(header: Header, total: Amount) -> usize
+    requires { ⌜ Whole (header .amount) × Whole total ⌝ }
+    ensures { λ r. ⌜ r ≡ choose (among (header .letter) check) 0 (choose (eqb (worth (header .amount)) (worth total)) 0 14) ⌝ }
+{
+    let letter = header.letter;
+    let declared = header.amount;
+    if is_check(letter) {
+        return 0;
+    }
+    if money::is_equal(declared, total) {
+        return 0;
+    }
+    14
+}
+
+// What is found at the end of a batch: 12, then the trailer, then field 9's sum.
+fn last_findings(
+    known: Finding,
+    book: &[u8],
+    shelves: Book,
+    rec: &[u8],
+    line: Line,
+    state: State,
+) -> Finding
+    requires { ⌜ Usable (now book) shelves × (length (now rec) ≡ 850) × Room (line .number) state × (line .number ≤ 65535) ⌝ }
+    ensures { λ r. ⌜ r ≡ after known (last (now (book .entry)) shelves state (line .number) (seen line (now (rec .entry)))) ⌝ }
+{
+    let header = state.header;
+    let total = state.total;
+    let opening = Line {
+        number: header.number,
+    };
+    let limit = account_limit(state.accounts);
+    let after_limit = reasons::note(known, limit, opening, 76);
+    let context = context_of(state, false, false);
+    let after_trailer = trailer_rules(after_limit, book, shelves, rec, line, context);
+    let summary = summary_reason(header, total);
+    reasons::note(after_trailer, summary, opening, 9)
+}
+
+// The trailer: the last payment ends, and the batch.
+fn take_trailer(book: &[u8], shelves: Book, rec: &[u8], line: Line, state: State) -> State
+    requires { ⌜ Usable (now book) shelves × (length (now rec) ≡ 850) × Room (line .number) state × (line .number ≤ 65535) ⌝ }
+    ensures { λ r. ⌜ r ≡ trailed (now (book .entry)) shelves state (line .number) (seen line (now (rec .entry))) ⌝ }
+{
+    let known = state.finding;
+    let payment = state.payment;
+    let ended = payment::end(known, payment);
+    let finding = last_findings(ended, book, shelves, rec, line, state);
+    know(state, finding, payment, state.accounts)
+}
+
+// The state after a record of the batch; a detail's Payment ID is the first that repeats an earlier one, or not.
+pub(crate) fn step(
+    book: &[u8],
+    shelves: Book,
+    rec: &[u8],
+    line: Line,
+    state: State,
+    repeats: bool,
+) -> State
+    requires { ⌜ Usable (now book) shelves × (length (now rec) ≡ 850) × Room (line .number) state × (line .number ≤ 65535) ⌝ }
+    ensures { λ r. ⌜ r ≡ stepOf (now (book .entry)) shelves (codeOf (seen line (now (rec .entry)))) state (line .number) (seen line (now (rec .entry))) repeats ⌝ }
+{
+    let code = code_of(rec, line);
+    match code {
+        Code::FileHeader => state,
+        Code::Batch(_) => state,
+        Code::Detail(_) => take_detail(book, shelves, rec, line, state, repeats),
+        Code::Party => take_party(book, shelves, rec, line, state),
+        Code::Account => take_account(book, shelves, rec, line, state),
+        Code::Procurement => take_procurement(book, shelves, rec, line, state),
+        Code::BatchTrailer => take_trailer(book, shelves, rec, line, state),
+        Code::FileTrailer => state,
+        Code::Unknown => state,
+    }
+}

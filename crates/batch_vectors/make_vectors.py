@@ -1,0 +1,706 @@
+#!/usr/bin/env python3
+"""Writes what this program is run on, and what documents 01 and 004 say of it.
+
+data/records.bin holds sound records, data/book.bin a code book, stdin a table with a case a line, stdout the rows (01 Report).
+The judge below goes over whole lists of records and keeps no state from one to the next.
+"""
+import datetime
+import pathlib
+import random
+import re
+
+here = pathlib.Path(__file__).parent
+LETTERS = "NCWIA"
+VOUCHERS = "NWIA"  # the batches that have a voucher (004 fields 7 to 14)
+LABEL = 48
+
+# 004 chapter 2: start and end position of each field that document 01 names, by the records that have it
+PLACES = {
+    6: (3, 16), 7: (17, 22), 8: (23, 32), 9: (33, 52), 10: (53, 56), 12: (60, 68), 13: (69, 77), 14: (78, 85), 15: (86, 89),
+    16: (90, 90), 17: (91, 98), 18: (99, 102), 19: (103, 110), 20: (111, 114),
+    23: (3, 22), 24: (23, 42), 25: (43, 43), 26: (44, 90), 28: (107, 131), 29: (132, 139), 35: (350, 351), 36: (352, 356),
+    38: (361, 362), 42: (426, 434), 43: (435, 443), 44: (444, 446), 48: (506, 507), 51: (526, 545), 52: (546, 548),
+    54: (560, 573), 55: (574, 593), 56: (594, 603), 58: (654, 661), 59: (662, 669), 62: (674, 676),
+    65: (3, 22), 66: (23, 172), 77: (3, 22), 80: (28, 30), 84: (40, 43), 85: (44, 46), 86: (47, 54), 87: (55, 74), 88: (75, 75),
+    91: (3, 22), 96: (131, 150), 99: (3, 10), 100: (11, 30),
+}
+
+
+def ebcdic(text):
+    return text.encode("cp037")
+
+
+def held(rec, field):
+    start, end = PLACES[field]
+    return bytes(rec[start - 1:end]).decode("cp037")
+
+
+# ---- the code book (01 Code book)
+
+LOCATIONS = {"00001234": 1, "00005678": 0}  # 1: a CARS Reporter
+BETCS = {"COLL": 1, "DISB": 0}  # 1: a credit
+TYPES = ["Benefit", "Grant", "Vendor"]
+STATES = ["CA", "NY"]
+COUNTRIES = ["CA", "US"]
+CURRENCIES = ["CAD", "USD"]
+
+
+def section(kind, entries):
+    body = b"".join(sorted(entries))
+    return (2 + len(body)).to_bytes(4, "little") + kind.to_bytes(2, "little") + body
+
+
+def coded(codes, width):
+    return [ebcdic(code.ljust(width)) for code in codes]
+
+
+def flagged(codes):
+    return [ebcdic(code.ljust(8)) + bytes([flag]) for code, flag in codes.items()]
+
+
+BOOK = b"".join([
+    section(1, coded(["PAYROLL"], 40)), section(2, flagged(LOCATIONS)), section(3, flagged(BETCS)), section(4, coded(TYPES, 25)),
+    section(5, coded(STATES, 2)), section(6, coded(COUNTRIES, 2)), section(7, coded(CURRENCIES, 3))])
+
+
+# ---- the judge (01 Batch reasons): what is wrong with a value is a reason, or 0
+
+def blank(value):
+    return not value.strip(" ")
+
+
+def is_digits(value):
+    return all(c in "0123456789" for c in value)
+
+
+def cents(value):
+    """An amount that is not 20 digits counts as zero in every sum."""
+    return int(value) if is_digits(value) else 0
+
+
+def first(*tests):
+    return next((reason for fails, reason in tests if fails), 0)
+
+
+def required(value):
+    return first((blank(value), 1))
+
+
+def number(value):
+    return first((blank(value), 1), (not is_digits(value), 2))
+
+
+def listed(value, values):
+    return first((blank(value), 1), (value not in [v.ljust(len(value)) for v in values], 3))
+
+
+def in_book(value, codes):
+    return first((blank(value), 1), (value not in [c.ljust(len(value)) for c in codes], 4))
+
+
+def if_filled(value, reason):
+    return 0 if blank(value) else reason
+
+
+def is_day(year, month, day):
+    try:
+        datetime.date(int(year), int(month), int(day))
+        return is_digits(year + month + day)
+    except ValueError:
+        return False
+
+
+def dashed_date(v):
+    return first((blank(v), 1), (v[4] + v[7] != "--" or not is_day(v[0:4], v[5:7], v[8:10]), 5))
+
+
+def plain_date(v):
+    return first((blank(v), 1), (not is_day(v[0:4], v[4:6], v[6:8]), 5))
+
+
+def routing(v):
+    prefixes = [*range(0, 13), *range(21, 33), *range(61, 73), 80]
+    return number(v) or first((int(v[:2]) not in prefixes, 3))
+
+
+def header_faults(h, letter, repeats):
+    v = lambda field: held(h, field)
+    yield 6, first((blank(v(6)), 1), (repeats, 6), (letter == "C" and v(6) != v(18) + v(19) + "  ", 7))
+    if letter in VOUCHERS:
+        yield 7, first((blank(v(7)), 1), (" " in v(7), 2))
+        yield 8, dashed_date(v(8))
+        yield 9, number(v(9))
+        yield 10, listed(v(10), ["5515", "215"])
+        if letter == "W":
+            yield 12, routing(v(12))
+        if letter == "N":
+            yield 13, routing(v(13))
+        yield 14, in_book(v(14), LOCATIONS)
+    else:
+        yield 15, number(v(15))
+        yield 16, listed(v(16), ["0"])
+        yield 17, plain_date(v(17))
+        yield 18, number(v(18)) or first((not 1000 <= int(v(18)) <= 9998, 8))
+        yield 19, number(v(19))
+        yield 20, number(v(20)) or first((not 1 <= int(v(20)[:2]) <= 12, 5))
+
+
+def detail_faults(d, letter, h, earlier):
+    """`earlier` are the details of the earlier payments."""
+    v = lambda field: held(d, field)
+    check = letter == "C"
+    own = held(h, 18) + v(58) + " " * 8
+    yield 23, first((blank(v(23)), 1), (v(23) in [held(e, 23) for e in earlier], 6), (check and v(23) != own, 7))
+    if check:
+        yield 24, number(v(24)) or first((int(v(24)) > 9999999999, 8), (v(25) == "1" and int(v(24)) != 0, 8))
+        yield 25, listed(v(25), ["0", "1"])
+    else:
+        yield 24, number(v(24)) or first((int(v(24)) == 0, 8))
+    yield 26, required(v(26))
+    yield 28, in_book(v(28), TYPES)
+    if check:
+        yield 29, in_book(v(29), LOCATIONS)
+    yield 35, if_filled(v(35), in_book(v(35), STATES))
+    yield 36, 0 if v(36) == "00000" else if_filled(v(36), number(v(36)))
+    yield 38, if_filled(v(38), in_book(v(38), COUNTRIES))
+    if letter == "W":
+        yield 42, routing(v(42))
+    if letter == "N":
+        yield 43, routing(v(43))
+    if letter == "W":
+        yield 44, listed(v(44), "CTR BTR CTP CKS DEP DRW DRC".split())
+    if letter == "N":
+        yield 48, 0 if v(48) == "00" else if_filled(v(48), listed(v(48), "22 32 42 52".split()))
+    if letter == "I":
+        yield 51, if_filled(v(51), listed(v(51), ["Electronic", "Check", "Western Union"]))
+    yield 52, if_filled(v(52), in_book(v(52), CURRENCIES))
+    if letter == "A":
+        yield 54, required(v(54))
+        yield 55, required(v(55))
+        yield 56, dashed_date(v(56))
+    if check:
+        start = held(h, 19)
+        yield 58, number(v(58)) or first((is_digits(start) and int(v(58)) != int(start) + len(earlier), 7))
+        yield 59, plain_date(v(59))
+    if letter == "N":
+        yield 62, listed(v(62), "CCD PPD IAT CTX".split())
+
+
+def party_faults(x, letter):
+    if letter != "A":
+        yield 66, required(held(x, 66))
+
+
+def account_faults(t, reporter):
+    for field in (80, 84, 85):
+        yield field, first((reporter and blank(held(t, field)), 1))
+    betc = held(t, 86)
+    yield 86, first((reporter and blank(betc), 1)) or if_filled(betc, in_book(betc, BETCS))
+    yield 87, number(held(t, 87))
+
+
+def procurement_faults(p, alone):
+    yield 96, 0 if alone and blank(held(p, 96)) else number(held(p, 96))
+
+
+def balances(paid, accounts):
+    amounts = [cents(held(t, 87)) for t in accounts]
+    if len(accounts) < 2:
+        return sum(amounts) == paid or not accounts
+    signs = [-1 if BETCS.get(held(t, 86).rstrip(" ")) else 1 for t in accounts]
+    return sum(sign * amount for sign, amount in zip(signs, amounts)) == paid
+
+
+def procures(paid, procurements):
+    values = [held(p, 96) for p in procurements]
+    if not values or len(values) == 1 and blank(values[0]):
+        return True
+    return sum(map(cents, values)) == paid
+
+
+def trailer_faults(t, payments, total):
+    yield 99, number(held(t, 99)) or first((int(held(t, 99)) != payments, 13))
+    yield 100, number(held(t, 100)) or first((int(held(t, 100)) != total, 14))
+
+
+def codes_of(records):
+    return "".join(bytes(r[:2]).decode("cp037") for r in records)
+
+
+def divided(records):
+    """The header, the payments and the trailer of the file's only batch, each record with its number; None where there is none (01 Nesting)."""
+    codes = codes_of(records)
+    if not re.fullmatch(r"FHB([NCWIA])(?:D\1(?:DX)+(?:DT){0,100}(?:DP){0,100})+BTFT", codes, re.S):
+        return None
+    numbered = list(enumerate(records, 1))
+    payments = [numbered[m.start() // 2:m.end() // 2] for m in re.finditer(r"D[NCWIA](?:DX|DT|DP)+", codes)]
+    if any(len({bytes(r[2:22]) for _, r in p}) > 1 for p in payments):
+        return None
+    return numbered[1], payments, numbered[-2]
+
+
+def kinds(payment, code):
+    return [(n, r) for n, r in payment if codes_of([r]) == code]
+
+
+def faults(header, payments, trailer, repeats):
+    """All that is wrong with a batch, in document 01's order: reason, record, field; reason 0 where nothing is."""
+    (head, h), (end, t) = header, trailer
+    letter = codes_of([h])[1]
+    details = [p[0][1] for p in payments]
+    yield from ((reason, head, field) for field, reason in header_faults(h, letter, repeats))
+    for i, payment in enumerate(payments):
+        n, d = payment[0]
+        location = held(d, 29) if letter == "C" else held(h, 14)
+        reporter = LOCATIONS.get(location.rstrip(" ")) == 1
+        accounts, procurements = kinds(payment, "DT"), kinds(payment, "DP")
+        yield from ((reason, n, field) for field, reason in detail_faults(d, letter, h, details[:i]))
+        for k, r in kinds(payment, "DX"):
+            yield from ((reason, k, field) for field, reason in party_faults(r, letter))
+        for k, r in accounts:
+            yield from ((reason, k, field) for field, reason in account_faults(r, reporter))
+        for k, r in procurements:
+            yield from ((reason, k, field) for field, reason in procurement_faults(r, len(procurements) == 1))
+        paid = cents(held(d, 24))
+        yield first((not balances(paid, [r for _, r in accounts]), 9)), n, 87
+        yield first((not procures(paid, [r for _, r in procurements]), 10)), n, 96
+        yield first((reporter and not accounts, 11)), n, 76
+    yield first((sum(len(kinds(p, "DT")) for p in payments) > 1000, 12)), head, 76
+    total = sum(cents(held(d, 24)) for d in details)
+    yield from ((reason, end, field) for field, reason in trailer_faults(t, len(payments), total))
+    if letter != "C" and is_digits(held(h, 9)):
+        yield first((int(held(h, 9)) != total, 14)), head, 9
+
+
+# ---- sound records, and files of them
+
+SYMBOL, SERIAL = "1234", "12345600"
+IDENT = SYMBOL + SERIAL
+
+
+def record(code, **fields):
+    rec = bytearray(ebcdic(code.ljust(850)))
+    for name, value in fields.items():
+        start, end = PLACES[int(name[1:])]
+        rec[start - 1:end] = ebcdic(value.ljust(end - start + 1))
+    return bytes(rec)
+
+
+def amount(n):
+    return "%020d" % n
+
+
+HEADERS = {
+    "N": dict(f13="061000146"), "W": dict(f12="021030004"), "I": {}, "A": {},
+    "C": dict(f15="1234", f16="0", f17="20240229", f18=SYMBOL, f19=SERIAL, f20="0224"),
+}
+VOUCHER = dict(f7="000123", f8="2024-02-29", f10="5515", f14="00005678")
+DETAILS = {
+    "N": dict(f43="071000013", f48="22", f62="CCD"), "W": dict(f42="800000001", f44="CTR"), "I": dict(f51="Electronic"),
+    "A": dict(f54="2024-0001", f55="PAID-BEFORE", f56="2000-02-29"), "C": dict(f25="0", f29="00005678", f58=SERIAL, f59="20240229"),
+}
+EVERY = dict(f24=amount(100), f26="Ann Example", f28="Vendor", f35="CA", f36="90210", f38="US", f52="USD")
+ACCOUNT = dict(f77=IDENT, f80="020", f84="1234", f85="000", f86="DISB", f88="0")
+
+
+def templates(letter):
+    """Header, detail, DX, a payment's first DT, its others, its first DP, its others, BT: of a payment of 100 cents."""
+    return [
+        record("B" + letter, f6=IDENT, f9=amount(0), **HEADERS[letter], **({} if letter == "C" else VOUCHER)),
+        record("D" + letter, f23=IDENT, **EVERY, **DETAILS[letter]),
+        record("DX", f65=IDENT, f66="Ann Example"),
+        record("DT", **ACCOUNT, f87=amount(100)), record("DT", **ACCOUNT, f87=amount(0)),
+        record("DP", f91=IDENT, f96=amount(100)), record("DP", f91=IDENT, f96=amount(0)),
+        record("BT", f99="0" * 8, f100=amount(0)),
+    ]
+
+
+ENDS = [record("FH"), record("FT")]
+TEMPLATES = {letter: templates(letter) for letter in LETTERS}
+
+
+def with_two(rec, n, *positions):
+    """The record with two digits of n at each of the positions."""
+    rec = bytearray(rec)
+    for p in positions:
+        rec[p - 1:p + 1] = ebcdic("%02d" % n)
+    return rec
+
+
+def whole(letter, shape):
+    """FH, a sound batch of this shape, FT. Payments are numbered from 0 in their IDs and in field 58; each is of 100 cents."""
+    payments, parties, accounts, procurements = shape
+    head, detail, dx, dt, dts, dp, dps, end = TEMPLATES[letter]
+    one = [detail] + [dx] * parties + ([dt] + [dts] * (accounts - 1)) * (accounts > 0) + ([dp] + [dps] * (procurements - 1)) * (procurements > 0)
+    records = [bytearray(ENDS[0]), with_two(head, payments, 49)]
+    for n in range(payments):
+        records += [with_two(rec, n, 13, 660) for rec in one]
+    return records + [with_two(end, payments, 9, 27), bytearray(ENDS[1])]
+
+
+# ---- the table: a case is a label, a letter, whether the schedule number repeats, a shape, changes
+
+ONE = (1, 1, 1, 1)  # payments; and of each DX, DT, DP
+HEAD, DETAIL, DX, DT, DP, BT = 2, 3, 4, 5, 6, 7  # the records of this shape
+table, says, covered = [], [], set()
+single = {letter: [] for letter in LETTERS}  # the faults that a batch of one payment can have: a name and changes
+
+
+def put(rec, field, value):
+    """The field of the record holds the value; a change is a record, its first and last position and the bytes that are repeated there."""
+    start, end = PLACES[field]
+    data = ebcdic(value.ljust(end - start + 1))
+    assert len(data) == end - start + 1, (field, value)
+    return rec, start, end, data[:1] if len(set(data)) == 1 else data
+
+
+def judged(letter, shape, changes, repeats):
+    """The row of the batch and all its faults, or None."""
+    records = whole(letter, shape)
+    for rec, start, end, data in changes:
+        for i in range(end - start + 1):
+            records[rec - 1][start - 1 + i] = data[i % len(data)]
+    parts = divided(records)
+    if parts is None:
+        return None
+    header, payments, trailer = parts
+    wrong = [f for f in faults(*parts, repeats) if f[0]]
+    total = sum(cents(held(p[0][1], 24)) for p in payments)
+    return [header[0], len(records) - 2, len(payments), total // 10**10, total % 10**10, *(wrong or [(0, 0, 0)])[0]], wrong
+
+
+def add(label, letter, changes=(), shape=ONE, repeats=0, expect="sound"):
+    """A case, with what it shows: `sound`, `no batch`, or the reason, the record and the field at fault; None: some fault."""
+    found = judged(letter, shape, changes, repeats)
+    words = [letter, str(repeats), *map(str, shape), str(len(changes))]
+    words += [w for rec, start, end, data in changes for w in (str(rec), str(start), str(end), data.hex().upper())]
+    assert len(label) < LABEL, label
+    table.append(label.ljust(LABEL) + " ".join(words))
+    if found is None:
+        assert expect == "no batch", label
+        says.append(label.ljust(LABEL) + "no batch")
+        return []
+    row, wrong = found
+    assert row[5] if expect is None else (tuple(row[5:]) if row[5] else "sound") == expect, (label, expect, wrong)
+    says.append(label.ljust(LABEL) + " ".join(map(str, row)))
+    return wrong
+
+
+def one_fault(field, reason, letters, rec, change, shape=ONE, repeats=0, note=""):
+    """The pair of field and reason for each of the letters, and nothing else at fault. `change` makes the changes from the letter."""
+    for letter in letters:
+        label = " ".join(filter(None, ["%d/%d" % (field, reason), letter, note]))
+        wrong = add(label, letter, change(letter), shape, repeats, (reason, rec, field))
+        assert wrong == [(reason, rec, field)], (label, wrong)
+        covered.add((field, reason, letter))
+        if shape == ONE and not repeats:
+            single[letter].append(("%d/%d" % (field, reason), change(letter)))
+
+
+def holds(rec, field, value):
+    return lambda letter: [put(rec, field, value)]
+
+
+def named(ident, records=(DETAIL, DX, DT, DP)):
+    """The payment's ID, in each of its records."""
+    return [put(rec, 23, ident) for rec in records]
+
+
+def paid(value, n, letter):
+    """The payment's field 24, and the n cents that it counts as wherever they are summed."""
+    changes = [put(DETAIL, 24, value), put(DT, 87, amount(n)), put(DP, 96, amount(n)), put(BT, 100, amount(n))]
+    return changes + ([] if letter == "C" else [put(HEAD, 9, amount(n))])
+
+
+def symbol(value):
+    """Field 18, and with it the schedule number and the Payment ID."""
+    return lambda letter: [put(HEAD, 18, value), put(HEAD, 6, value.ljust(4) + SERIAL)] + named(value.ljust(4) + SERIAL)
+
+
+def first_serial(value):
+    return lambda letter: [put(HEAD, 19, value), put(HEAD, 6, SYMBOL + value)]
+
+
+def serial(value):
+    """Field 58, and with it the Payment ID."""
+    return lambda letter: [put(DETAIL, 58, value)] + named(SYMBOL + value)
+
+
+def reporter(letter):
+    """The payer is a CARS Reporter."""
+    return put(DETAIL, 29, "00001234") if letter == "C" else put(HEAD, 14, "00001234")
+
+
+def of_reporter(rec, field, value):
+    return lambda letter: [reporter(letter), put(rec, field, value)]
+
+
+# sound batches
+for letter in LETTERS:
+    add("sound " + letter, letter)
+    add("sound %s, no DT, no DP" % letter, letter, shape=(1, 1, 0, 0))
+    add("sound %s, three payments" % letter, letter, shape=(3, 2, 3, 2))
+    add("sound %s, of a CARS Reporter" % letter, letter, [reporter(letter)])
+
+# header
+one_fault(6, 1, LETTERS, HEAD, holds(HEAD, 6, ""))
+one_fault(6, 6, LETTERS, HEAD, lambda letter: [], repeats=1)
+one_fault(6, 7, "C", HEAD, holds(HEAD, 6, IDENT[:-1] + "9"))
+one_fault(7, 1, VOUCHERS, HEAD, holds(HEAD, 7, ""))
+one_fault(7, 2, VOUCHERS, HEAD, holds(HEAD, 7, "00 123"))
+one_fault(8, 1, VOUCHERS, HEAD, holds(HEAD, 8, ""))
+one_fault(8, 5, VOUCHERS, HEAD, holds(HEAD, 8, "1900-02-29"))
+one_fault(9, 1, VOUCHERS, HEAD, holds(HEAD, 9, ""))
+one_fault(9, 2, VOUCHERS, HEAD, holds(HEAD, 9, "100"))
+one_fault(10, 1, VOUCHERS, HEAD, holds(HEAD, 10, ""))
+one_fault(10, 3, VOUCHERS, HEAD, holds(HEAD, 10, " 215"))
+for letters, rec, field in [("W", HEAD, 12), ("N", HEAD, 13), ("W", DETAIL, 42), ("N", DETAIL, 43)]:
+    one_fault(field, 1, letters, rec, holds(rec, field, ""))
+    one_fault(field, 2, letters, rec, holds(rec, field, "00000000A"))
+    one_fault(field, 3, letters, rec, holds(rec, field, "130000000"))
+one_fault(14, 1, VOUCHERS, HEAD, holds(HEAD, 14, ""))
+one_fault(14, 4, VOUCHERS, HEAD, holds(HEAD, 14, "00005679"))
+one_fault(15, 1, "C", HEAD, holds(HEAD, 15, ""))
+one_fault(15, 2, "C", HEAD, holds(HEAD, 15, "123 "))
+one_fault(16, 1, "C", HEAD, holds(HEAD, 16, ""))
+one_fault(16, 3, "C", HEAD, holds(HEAD, 16, "1"))
+one_fault(17, 1, "C", HEAD, holds(HEAD, 17, ""))
+one_fault(17, 5, "C", HEAD, holds(HEAD, 17, "20230229"))
+one_fault(18, 1, "C", HEAD, symbol(""))
+one_fault(18, 2, "C", HEAD, symbol("123A"))
+one_fault(18, 8, "C", HEAD, symbol("0999"))
+one_fault(18, 8, "C", HEAD, symbol("9999"), note="above")
+one_fault(19, 1, "C", HEAD, first_serial(""))
+one_fault(19, 2, "C", HEAD, first_serial("1234560 "))
+one_fault(20, 1, "C", HEAD, holds(HEAD, 20, ""))
+one_fault(20, 2, "C", HEAD, holds(HEAD, 20, "022A"))
+one_fault(20, 5, "C", HEAD, holds(HEAD, 20, "1324"))
+
+# detail
+one_fault(23, 1, LETTERS, DETAIL, lambda letter: named(""))
+one_fault(23, 6, LETTERS, 7, lambda letter: named(IDENT, (7, 8, 9, 10)), shape=(2, 1, 1, 1))
+one_fault(23, 7, "C", DETAIL, lambda letter: named(IDENT[:-1] + "9"))
+one_fault(24, 1, LETTERS, DETAIL, lambda letter: paid("", 0, letter))
+one_fault(24, 2, LETTERS, DETAIL, lambda letter: paid("100", 0, letter))
+one_fault(24, 8, VOUCHERS, DETAIL, lambda letter: paid(amount(0), 0, letter))
+one_fault(24, 8, "C", DETAIL, lambda letter: paid(amount(10**10), 10**10, letter))
+one_fault(24, 8, "C", DETAIL, holds(DETAIL, 25, "1"), note="voided, but not zero")
+one_fault(25, 1, "C", DETAIL, holds(DETAIL, 25, ""))
+one_fault(25, 3, "C", DETAIL, holds(DETAIL, 25, "2"))
+one_fault(26, 1, LETTERS, DETAIL, holds(DETAIL, 26, ""))
+one_fault(28, 1, LETTERS, DETAIL, holds(DETAIL, 28, ""))
+one_fault(28, 4, LETTERS, DETAIL, holds(DETAIL, 28, "vendor"))
+one_fault(29, 1, "C", DETAIL, holds(DETAIL, 29, ""))
+one_fault(29, 4, "C", DETAIL, holds(DETAIL, 29, "00001235"))
+one_fault(35, 4, LETTERS, DETAIL, holds(DETAIL, 35, "US"))
+one_fault(36, 2, LETTERS, DETAIL, holds(DETAIL, 36, "9021"))
+one_fault(38, 4, LETTERS, DETAIL, holds(DETAIL, 38, "NY"))
+one_fault(44, 1, "W", DETAIL, holds(DETAIL, 44, ""))
+one_fault(44, 3, "W", DETAIL, holds(DETAIL, 44, "CTX"))
+one_fault(48, 3, "N", DETAIL, holds(DETAIL, 48, "23"))
+one_fault(51, 3, "I", DETAIL, holds(DETAIL, 51, "Western"))
+one_fault(52, 4, LETTERS, DETAIL, holds(DETAIL, 52, "US"))
+one_fault(54, 1, "A", DETAIL, holds(DETAIL, 54, ""))
+one_fault(55, 1, "A", DETAIL, holds(DETAIL, 55, ""))
+one_fault(56, 1, "A", DETAIL, holds(DETAIL, 56, ""))
+one_fault(56, 5, "A", DETAIL, holds(DETAIL, 56, "2024/02/29"))
+one_fault(58, 1, "C", DETAIL, serial(""))
+one_fault(58, 2, "C", DETAIL, serial("1234560A"))
+one_fault(58, 7, "C", DETAIL, serial("12345601"))
+one_fault(59, 1, "C", DETAIL, holds(DETAIL, 59, ""))
+one_fault(59, 5, "C", DETAIL, holds(DETAIL, 59, "00000101"))
+one_fault(62, 1, "N", DETAIL, holds(DETAIL, 62, ""))
+one_fault(62, 3, "N", DETAIL, holds(DETAIL, 62, "CTR"))
+
+# the other records; DT 6 and DP 7 are the second ones of their payment
+TWO_DT, TWO_DP = (1, 1, 2, 1), (1, 1, 1, 2)
+one_fault(66, 1, "NCWI", DX, holds(DX, 66, ""))
+for field in (80, 84, 85, 86):
+    one_fault(field, 1, LETTERS, DT, of_reporter(DT, field, ""))
+one_fault(86, 4, LETTERS, DT, holds(DT, 86, "COL"))
+one_fault(87, 1, LETTERS, 6, holds(6, 87, ""), shape=TWO_DT)
+one_fault(87, 2, LETTERS, 6, holds(6, 87, "0"), shape=TWO_DT)
+one_fault(96, 1, LETTERS, 7, holds(7, 96, ""), shape=TWO_DP)
+one_fault(96, 2, LETTERS, 7, holds(7, 96, "0" * 19 + "-"), shape=TWO_DP)
+one_fault(87, 9, LETTERS, DETAIL, holds(DT, 87, amount(99)))
+one_fault(96, 10, LETTERS, DETAIL, holds(DP, 96, amount(101)))
+one_fault(76, 11, LETTERS, DETAIL, lambda letter: [reporter(letter)], shape=(1, 1, 0, 1))
+one_fault(76, 12, LETTERS, HEAD, lambda letter: [], shape=(11, 1, 91, 0))
+one_fault(99, 1, LETTERS, BT, holds(BT, 99, ""))
+one_fault(99, 2, LETTERS, BT, holds(BT, 99, "1"))
+one_fault(99, 13, LETTERS, BT, holds(BT, 99, "00000002"))
+one_fault(100, 1, LETTERS, BT, holds(BT, 100, ""))
+one_fault(100, 2, LETTERS, BT, holds(BT, 100, "100"))
+one_fault(100, 14, LETTERS, BT, holds(BT, 100, amount(101)))
+one_fault(9, 14, VOUCHERS, HEAD, holds(HEAD, 9, amount(101)))
+
+# values that pass, and others that just do not
+for prefix in ["00", "12", "21", "32", "61", "72", "80"]:
+    add("42 prefix " + prefix, "W", [put(DETAIL, 42, prefix + "0000000")])
+for prefix in ["13", "20", "33", "60", "73", "79", "81", "99"]:
+    add("42 prefix " + prefix, "W", [put(DETAIL, 42, prefix + "0000000")], expect=(3, DETAIL, 42))
+for field, letter, values in [
+        (10, "N", ["5515", "215"]), (44, "W", "CTR BTR CTP CKS DEP DRW DRC".split()), (48, "N", ["22", "32", "42", "52", "00", ""]),
+        (51, "I", ["Electronic", "Check", "Western Union", ""]), (62, "N", ["CCD", "PPD", "IAT", "CTX"]), (35, "A", ["NY", ""]),
+        (36, "I", ["00000", "", "00001"]), (38, "C", ["CA", ""]), (52, "W", ["CAD", ""]), (28, "A", ["Benefit", "Grant"])]:
+    for value in values:
+        rec = HEAD if field == 10 else DETAIL
+        add("%d holds %s" % (field, value or "blanks"), letter, [put(rec, field, value)])
+for day in ["2024-02-29", "2000-02-29", "0001-01-01", "9999-12-31"]:
+    add("8 holds " + day, "I", [put(HEAD, 8, day)])
+    add("17 holds " + day.replace("-", ""), "C", [put(HEAD, 17, day.replace("-", ""))])
+for day in ["1900-02-29", "0000-01-01", "2024-13-01", "2024-04-31", "20240229--", "2024-02-2A", "24-02-29"]:
+    add("8 holds " + day, "I", [put(HEAD, 8, day)], expect=(5, HEAD, 8))
+add("12 holds zeros", "W", [put(HEAD, 12, "000000000")])
+add("12, a non-digit behind a wrong prefix: 2", "W", [put(HEAD, 12, "13000000A")], expect=(2, HEAD, 12))
+add("18 holds 1000", "C", symbol("1000")("C"))
+add("18 holds 9998", "C", symbol("9998")("C"))
+add("20 holds 1200", "C", [put(HEAD, 20, "1200")])
+add("20 holds 0000", "C", [put(HEAD, 20, "0000")], expect=(5, HEAD, 20))
+add("20 holds 13A0: 2", "C", [put(HEAD, 20, "13A0")], expect=(2, HEAD, 20))
+add("16 holds a letter: 3", "C", [put(HEAD, 16, "A")], expect=(3, HEAD, 16))
+add("24, the most a check may be", "C", paid(amount(9999999999), 9999999999, "C"))
+add("24, a wire above a check's limit", "W", paid(amount(10**10), 10**10, "W"))
+add("24, a voided check of zero", "C", paid(amount(0), 0, "C") + [put(DETAIL, 25, "1")])
+add("24, a check of zero", "C", paid(amount(0), 0, "C"))
+add("48 holds 2 and a blank: 3", "N", [put(DETAIL, 48, "2")], expect=(3, DETAIL, 48))
+add("58, the second check is the next", "C", shape=(2, 1, 1, 1))
+add("58, past eight digits nothing is next", "C",
+    [put(HEAD, 19, "99999999"), put(HEAD, 6, SYMBOL + "99999999"), put(3, 58, "99999999"), put(6, 58, "00000000")]
+    + named(SYMBOL + "99999999", (3, 4, 5)) + named(SYMBOL + "00000000", (6, 7, 8)), shape=(2, 1, 1, 0), expect=(7, 6, 58))
+add("66 blank under DA", "A", [put(DX, 66, "")])
+add("66 blank in the second DX", "N", [put(5, 66, "")], shape=(1, 2, 0, 0), expect=(1, 5, 66))
+add("80, 84, 85, 86 blank, no CARS Reporter", "N", [put(DT, f, "") for f in (80, 84, 85, 86)])
+add("fields of other kinds are not looked at", "N",
+    [put(HEAD, f, "x") for f in (12, 15, 16, 17, 18, 19, 20)] + [put(DETAIL, f, "x") for f in (25, 29, 42, 44, 51, 54, 55, 56, 58, 59)])
+add("fields of other kinds, in a check batch", "C",
+    [put(HEAD, f, "x") for f in (7, 8, 9, 10, 12, 13, 14)] + [put(DETAIL, f, "x") for f in (42, 43, 44, 48, 51, 54, 55, 56, 62)])
+for byte in (0x3F, 0x41, 0xEF, 0xFA, 0xFF):
+    add("99 ends in hex %02X" % byte, "W", [(BT, 10, 10, bytes([byte]))], expect=(2, BT, 99))
+add("26 holds hex 41, which is no blank", "N", [(DETAIL, 44, 90, b"\x41")])
+add("7 ends in a blank", "A", [put(HEAD, 7, "00012")], expect=(2, HEAD, 7))
+add("7 holds no digits", "A", [put(HEAD, 7, "SUM-A1")])
+
+# 01 Sums
+CREDIT = "COLL"
+add("sum: debit 130 and credit 30", "N", [put(5, 87, amount(130)), put(6, 87, amount(30)), put(6, 86, CREDIT)], shape=(1, 1, 2, 0))
+add("sum: a single credit of 100", "N", [put(DT, 86, CREDIT)], shape=(1, 1, 1, 0))
+add("sum: two credits of 50", "N", [put(n, f, v) for n in (5, 6) for f, v in ((86, CREDIT), (87, amount(50)))], shape=(1, 1, 2, 0), expect=(9, DETAIL, 87))
+add("sum: two debits of 50", "N", [put(n, 87, amount(50)) for n in (5, 6)], shape=(1, 1, 2, 0))
+add("sum: a blank BETC counts positive", "N", [put(5, 87, amount(130)), put(5, 86, ""), put(6, 87, amount(30)), put(6, 86, CREDIT)], shape=(1, 1, 2, 0))
+add("sum: credits above debits", "N", [put(5, 87, amount(0)), put(6, 87, amount(100)), put(6, 86, CREDIT)], shape=(1, 1, 2, 0), expect=(9, DETAIL, 87))
+add("sum: a credit before its debit", "W", [put(5, 86, CREDIT), put(5, 87, amount(30)), put(6, 87, amount(130))], shape=(1, 1, 2, 0))
+add("sum: a lone DT of 99", "A", [put(DT, 87, amount(99))], shape=(1, 1, 1, 0), expect=(9, DETAIL, 87))
+add("sum: no DT", "A", shape=(1, 1, 0, 0))
+add("sum: debits past twenty digits", "W",
+    [put(5, 87, "9" * 20), put(6, 87, amount(101)), put(7, 87, "9" * 20), put(7, 86, CREDIT), put(8, 87, amount(1)), put(8, 86, CREDIT)], shape=(1, 1, 4, 0))
+add("sum: DP past twenty digits", "W", [put(5, 96, "9" * 20), put(6, 96, amount(101))], shape=(1, 1, 0, 2), expect=(10, DETAIL, 96))
+for letter in LETTERS:
+    add("88 is 1 on a debit, " + letter, letter, [put(DT, 88, "1")])
+    add("a lone blank DP, " + letter, letter, [put(5, 96, "")], shape=(1, 1, 0, 1))
+    add("two DP, the first blank, " + letter, letter, [put(5, 96, ""), put(6, 96, amount(100))], shape=(1, 1, 0, 2), expect=(1, 5, 96))
+add("88 is 1 on both of two debits", "I", [put(n, f, v) for n in (5, 6) for f, v in ((88, "1"), (87, amount(50)))], shape=(1, 1, 2, 0))
+add("two DP, both blank", "N", [put(5, 96, ""), put(6, 96, "")], shape=(1, 1, 0, 2), expect=(1, 5, 96))
+add("two DP of 40 and 60", "N", [put(5, 96, amount(40)), put(6, 96, amount(60))], shape=(1, 1, 0, 2))
+add("three DP, the second blank", "N", [put(6, 96, "")], shape=(1, 1, 0, 3), expect=(1, 6, 96))
+add("a lone DP of no digits: 2, before 10", "N", [put(DP, 96, "x")], expect=(2, DP, 96))
+add("a lone DP of no cents: 10", "N", [put(DP, 96, amount(0))], expect=(10, DETAIL, 96))
+add("lone blank DP in each of two payments", "I", [put(5, 96, ""), put(8, 96, "")], shape=(2, 1, 0, 1))
+add("a location that the book lacks is no reporter", "C", [put(DETAIL, 29, "99999999")], shape=(1, 1, 0, 0), expect=(4, DETAIL, 29))
+add("a reporter by field 14 is none in a check batch", "C", [put(HEAD, 14, "00001234")], shape=(1, 1, 0, 0))
+add("a reporter by field 29 is none elsewhere", "W", [put(DETAIL, 29, "00001234")], shape=(1, 1, 0, 0))
+add("one check of a reporter, one of another", "C", [put(7, 29, "00001234"), put(9, 80, "")], shape=(2, 1, 1, 1), expect=(1, 9, 80))
+add("1,000 DT", "W", shape=(10, 1, 100, 0))
+add("1,000 DT in a check batch", "C", shape=(10, 1, 100, 0))
+add("100 DT and 100 DP", "A", shape=(1, 1, 100, 100))
+
+# 01 Report: counts and totals, whatever the faults
+add("a rejected batch keeps its total and counts", "N", [put(HEAD, 7, "")], shape=(3, 1, 1, 1), expect=(1, HEAD, 7))
+add("rejected at its last payment", "W", [put(11, 26, "")], shape=(3, 1, 1, 1), expect=(1, 11, 26))
+add("no digits: zero in the total", "I", [put(3, 24, "1 0")], shape=(3, 1, 0, 0), expect=(2, 3, 24))
+add("no digits in the second payment of three", "I", [put(5, 24, "x")], shape=(3, 1, 0, 0), expect=(2, 5, 24))
+add("blank: zero in the total", "N", [put(3, 24, "")], shape=(2, 1, 0, 0), expect=(1, 3, 24))
+add("twenty nines", "W", paid("9" * 20, 10**20 - 1, "W"))
+add("two of twenty nines: no field holds the sum", "W", [put(n, 24, "9" * 20) for n in (3, 5)], shape=(2, 1, 0, 0), expect=(14, 7, 100))
+add("twenty nines and 1", "A", [put(3, 24, "9" * 20), put(5, 24, amount(1))], shape=(2, 1, 0, 0), expect=(14, 7, 100))
+add("ten times twenty nines", "N", [put(n, 24, "9" * 20) for n in range(3, 23, 2)], shape=(10, 1, 0, 0), expect=(14, 23, 100))
+add("two of 2^63: their sum passes 64 bits", "I",
+    [put(n, 24, amount(2**63)) for n in (3, 5)] + [put(7, 100, amount(2**64)), put(HEAD, 9, amount(2**64))], shape=(2, 1, 0, 0))
+add("the same, and a trailer that wraps", "I",
+    [put(n, 24, amount(2**63)) for n in (3, 5)] + [put(7, 100, amount(0)), put(HEAD, 9, amount(2**64))], shape=(2, 1, 0, 0), expect=(14, 7, 100))
+
+# 6 and 23: the later one is at fault
+add("the repeat is at the later detail", "N", named(IDENT, (7, 8)), shape=(3, 1, 0, 0), expect=(6, 7, 23))
+add("the third repeats the second", "W", named(IDENT[:-2] + "01", (7, 8)), shape=(3, 1, 0, 0), expect=(6, 7, 23))
+add("second and third repeat the first", "A", named(IDENT, (5, 6, 7, 8)), shape=(3, 1, 0, 0), expect=(6, 5, 23))
+add("IDs that fall", "I", named("Z", (3, 4)) + named("Y", (5, 6)) + named("X", (7, 8)), shape=(3, 1, 0, 0))
+add("IDs that fall, and the first again", "I", named("Z", (3, 4)) + named("Y", (5, 6)) + named("Z", (7, 8)), shape=(3, 1, 0, 0), expect=(6, 7, 23))
+add("two blank IDs: 1 at the first", "N", named("", (3, 4, 5, 6)), shape=(2, 1, 0, 0), expect=(1, 3, 23))
+add("a repeat that does not match its serial: 6", "C", named(IDENT, (5, 6)), shape=(2, 1, 0, 0), expect=(6, 5, 23))
+add("a schedule number that repeats and differs: 6", "C", [put(HEAD, 6, "X")], repeats=1, expect=(6, HEAD, 6))
+add("a blank schedule number that repeats: 1", "N", [put(HEAD, 6, "")], repeats=1, expect=(1, HEAD, 6))
+
+# two faults: the first in document 01's order
+add("header before detail", "N", [put(DETAIL, 26, ""), put(HEAD, 14, "")], expect=(1, HEAD, 14))
+add("header's fields ascend", "N", [put(HEAD, 14, ""), put(HEAD, 8, "")], expect=(1, HEAD, 8))
+add("a check header's fields ascend", "C", [put(HEAD, 20, ""), put(HEAD, 16, "")], expect=(1, HEAD, 16))
+add("6 before 18", "C", [put(HEAD, 18, "0999")], expect=(7, HEAD, 6))
+add("detail's fields ascend: 26 before 62", "N", [put(DETAIL, 62, ""), put(DETAIL, 26, "")], expect=(1, DETAIL, 26))
+add("detail's fields ascend: 43 before 48", "N", [put(DETAIL, 48, "99"), put(DETAIL, 43, "")], expect=(1, DETAIL, 43))
+add("detail's fields ascend: 38 before 42", "W", [put(DETAIL, 42, ""), put(DETAIL, 38, "XX")], expect=(4, DETAIL, 38))
+add("detail's fields ascend: 52 before 58", "C", [put(DETAIL, 58, "")] + named(SYMBOL) + [put(DETAIL, 52, "X")], expect=(4, DETAIL, 52))
+add("24 before 25", "C", paid("", 0, "C") + [put(DETAIL, 25, "")], expect=(1, DETAIL, 24))
+add("detail before DX", "N", [put(DX, 66, ""), put(DETAIL, 62, "")], expect=(1, DETAIL, 62))
+add("DX before DT", "N", [put(DT, 87, ""), put(DX, 66, "")], expect=(1, DX, 66))
+add("DT before DP", "N", [put(DP, 96, "x"), put(DT, 87, "x")], expect=(2, DT, 87))
+add("DP before 9", "N", [put(DT, 87, amount(99)), put(DP, 96, "x")], expect=(2, DP, 96))
+add("the first of two blank DP before 9", "N", [put(5, 87, amount(99)), put(6, 96, "")], shape=TWO_DP, expect=(1, 6, 96))
+add("9 before 10", "N", [put(DP, 96, amount(99)), put(DT, 87, amount(99))], expect=(9, DETAIL, 87))
+add("10 before 11", "N", [reporter("N"), put(5, 96, amount(99))], shape=(1, 1, 0, 1), expect=(10, DETAIL, 96))
+add("10 before 11, in a check batch", "C", [reporter("C"), put(5, 96, amount(99))], shape=(1, 1, 0, 1), expect=(10, DETAIL, 96))
+add("9 of a payment before the next detail", "I", [put(7, 26, ""), put(5, 87, amount(99))], shape=(2, 1, 1, 1), expect=(9, 3, 87))
+add("11 of a payment before the next detail", "I", [reporter("I"), put(5, 26, "")], shape=(2, 1, 0, 0), expect=(11, 3, 76))
+add("the last payment's 9 before BT", "A", [put(BT, 99, ""), put(DT, 87, amount(99))], expect=(9, DETAIL, 87))
+add("9 before 12", "W", [put(5, 87, amount(99))], shape=(11, 1, 91, 0), expect=(9, 3, 87))
+add("12 before BT and field 9", "W", [put(1026, 99, ""), put(HEAD, 9, amount(1))], shape=(11, 1, 91, 0), expect=(12, HEAD, 76))
+add("99 before 100", "N", [put(BT, 100, ""), put(BT, 99, "00000002")], expect=(13, BT, 99))
+add("BT before field 9's sum", "N", [put(HEAD, 9, amount(101)), put(BT, 100, amount(101))], expect=(14, BT, 100))
+add("BT's count before field 9's sum", "W", [put(HEAD, 9, amount(101)), put(BT, 99, "00000009")], expect=(13, BT, 99))
+add("field 9 of no digits before the detail", "A", [put(HEAD, 9, "x"), put(DETAIL, 24, "")], expect=(2, HEAD, 9))
+rng = random.Random(850)
+for letter in LETTERS:
+    for _ in range(24):
+        (one, changes), (other, more) = rng.sample(single[letter], 2)
+        add("both %s and %s, %s" % (one, other, letter), letter, changes + more, expect=None)
+
+# files without a batch, or with two (01 Nesting)
+add("no payment", "N", shape=(0, 1, 1, 1), expect="no batch")
+add("no DX", "W", shape=(1, 0, 1, 1), expect="no batch")
+add("101 DT", "I", shape=(1, 1, 101, 0), expect="no batch")
+add("101 DP", "A", shape=(1, 1, 0, 101), expect="no batch")
+add("BT in place of DX", "C", [(DX, 1, 2, ebcdic("BT"))], expect="no batch")
+add("another letter's detail", "N", [(DETAIL, 1, 2, ebcdic("DW"))], expect="no batch")
+add("another payment's DT", "N", [put(DT, 77, "X")], expect="no batch")
+add("two batches", "N", [(n, 1, 2, ebcdic(code)) for n, code in ((6, "BT"), (7, "BN"), (8, "DN"), (9, "DX"))], shape=(2, 1, 1, 1), expect="no batch")
+
+# every pair that document 01 has, by field: the letters of each reason
+PAIRS = {
+    6: {1: LETTERS, 6: LETTERS, 7: "C"}, 7: {1: VOUCHERS, 2: VOUCHERS}, 8: {1: VOUCHERS, 5: VOUCHERS}, 9: {1: VOUCHERS, 2: VOUCHERS, 14: VOUCHERS},
+    10: {1: VOUCHERS, 3: VOUCHERS}, 12: {1: "W", 2: "W", 3: "W"}, 13: {1: "N", 2: "N", 3: "N"}, 14: {1: VOUCHERS, 4: VOUCHERS},
+    15: {1: "C", 2: "C"}, 16: {1: "C", 3: "C"}, 17: {1: "C", 5: "C"}, 18: {1: "C", 2: "C", 8: "C"}, 19: {1: "C", 2: "C"}, 20: {1: "C", 2: "C", 5: "C"},
+    23: {1: LETTERS, 6: LETTERS, 7: "C"}, 24: {1: LETTERS, 2: LETTERS, 8: LETTERS}, 25: {1: "C", 3: "C"}, 26: {1: LETTERS}, 28: {1: LETTERS, 4: LETTERS},
+    29: {1: "C", 4: "C"}, 35: {4: LETTERS}, 36: {2: LETTERS}, 38: {4: LETTERS}, 42: {1: "W", 2: "W", 3: "W"}, 43: {1: "N", 2: "N", 3: "N"},
+    44: {1: "W", 3: "W"}, 48: {3: "N"}, 51: {3: "I"}, 52: {4: LETTERS}, 54: {1: "A"}, 55: {1: "A"}, 56: {1: "A", 5: "A"}, 58: {1: "C", 2: "C", 7: "C"},
+    59: {1: "C", 5: "C"}, 62: {1: "N", 3: "N"}, 66: {1: "NCWI"}, 76: {11: LETTERS, 12: LETTERS}, 80: {1: LETTERS}, 84: {1: LETTERS}, 85: {1: LETTERS},
+    86: {1: LETTERS, 4: LETTERS}, 87: {1: LETTERS, 2: LETTERS, 9: LETTERS}, 96: {1: LETTERS, 2: LETTERS, 10: LETTERS},
+    99: {1: LETTERS, 2: LETTERS, 13: LETTERS}, 100: {1: LETTERS, 2: LETTERS, 14: LETTERS},
+}
+assert covered == {(field, reason, letter) for field, reasons in PAIRS.items() for reason, letters in reasons.items() for letter in letters}
+
+assert len({line[:LABEL] for line in table}) == len(table)
+
+(here / "data").mkdir(exist_ok=True)
+(here / "data" / "book.bin").write_bytes(BOOK)
+(here / "data" / "records.bin").write_bytes(b"".join(ENDS + [r for letter in LETTERS for r in TEMPLATES[letter]]))
+(here / "stdin").write_text("".join(line + "\n" for line in table))
+(here / "stdout").write_text("".join(line + "\n" for line in says))

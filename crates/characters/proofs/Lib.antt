@@ -1,0 +1,3 @@
+mod Stretches
+mod Turns
+pub mod Unique

@@ -1,0 +1,116 @@
+// Bytes below hex 40 outside fillers (01 Bytes): one pass over the file. Fields between two fillers are looked at as one stretch.
+use record::Field;
+use record::Line;
+use record::codes::Code;
+use record::codes::code_of;
+ghost use mathlib.Core.Path.{_≡_};
+ghost use Prim.Native.Nat.{_≤_};
+ghost use lib.ListN.{length};
+ghost use Rattle.record.specs.Value.{seen};
+ghost use Rattle.record.specs.Layout.{layout};
+ghost use Rattle.record.specs.Layout.Record.{BatchHeader};
+ghost use Rattle.nesting.specs.Records.{Cuttable, records};
+ghost use Rattle.characters.specs.Characters.{cleanIn, clean, firstUnclean};
+
+// Fields 1 to 3.
+const FILE_HEADER: Field = Field {
+    start: 1,
+    width: 45,
+};
+
+// Fields 5 to 10.
+const BATCH_HEADER_FRONT: Field = Field {
+    start: 1,
+    width: 56,
+};
+
+// Fields 12 to 20.
+const BATCH_HEADER_BACK: Field = Field {
+    start: 60,
+    width: 55,
+};
+
+// Fields 22 to 62.
+const DETAIL: Field = Field {
+    start: 1,
+    width: 676,
+};
+
+// Fields 64 to 74.
+const PARTY: Field = Field {
+    start: 1,
+    width: 350,
+};
+
+// Fields 76 to 88.
+const ACCOUNT: Field = Field {
+    start: 1,
+    width: 75,
+};
+
+// Fields 90 to 96.
+const PROCUREMENT: Field = Field {
+    start: 1,
+    width: 150,
+};
+
+// Fields 98 to 100.
+const BATCH_TRAILER: Field = Field {
+    start: 1,
+    width: 30,
+};
+
+// Fields 102 to 105.
+const FILE_TRAILER: Field = Field {
+    start: 1,
+    width: 58,
+};
+
+// No byte of the batch header is below hex 40 outside its fillers, of which one stands between its fields.
+fn is_clean_header(rec: &[u8], line: Line) -> bool
+    requires { ⌜ 850 ≤ length (now rec) ⌝ }
+    ensures { λ r. ⌜ r ≡ cleanIn (seen line (now (rec .entry))) (layout BatchHeader) ⌝ }
+{
+    if !record::field_valid(rec, line, BATCH_HEADER_FRONT) {
+        return false;
+    }
+    record::field_valid(rec, line, BATCH_HEADER_BACK)
+}
+
+// No byte of the record is below hex 40 outside its fillers.
+fn is_clean(rec: &[u8], line: Line) -> bool
+    requires { ⌜ 850 ≤ length (now rec) ⌝ }
+    ensures { λ r. ⌜ r ≡ clean (seen line (now (rec .entry))) ⌝ }
+{
+    let code = code_of(rec, line);
+    match code {
+        Code::FileHeader => record::field_valid(rec, line, FILE_HEADER),
+        Code::Batch(_) => is_clean_header(rec, line),
+        Code::Detail(_) => record::field_valid(rec, line, DETAIL),
+        Code::Party => record::field_valid(rec, line, PARTY),
+        Code::Account => record::field_valid(rec, line, ACCOUNT),
+        Code::Procurement => record::field_valid(rec, line, PROCUREMENT),
+        Code::BatchTrailer => record::field_valid(rec, line, BATCH_TRAILER),
+        Code::FileTrailer => record::field_valid(rec, line, FILE_TRAILER),
+        Code::Unknown => true,
+    }
+}
+
+// The number of the first record with a byte below hex 40 outside its fillers (01 File answers, 7), or 0.
+pub fn first_unclean(file: &[u8]) -> usize
+    requires { ⌜ Cuttable (now file) ⌝ }
+    ensures { λ r. ⌜ r ≡ firstUnclean 1 (records (now (file .entry))) ⌝ }
+{
+    let mut number: usize = 1;
+    let mut at: usize = 0;
+    while at < file.len() {
+        let end = at + 850;
+        let rec = &file[at..end];
+        if !is_clean(rec, Line { number }) {
+            return number;
+        }
+        number += 1;
+        at = end;
+    }
+    0
+}
