@@ -29,7 +29,7 @@ pub record Example : Type 0 where
   pub answer : Verdict
 
 -- document 01: FH BN DN DX BT FT; FH BN DN BT; FH BN DW; FH BN DN DX; FH FT
-pub examples : List Example
+unfoldable pub examples : List Example
 examples =
     record { codes = FileHeader ∷ Batch N ∷ Detail N ∷ Party ∷ BatchTrailer ∷ FileTrailer ∷ []; answer = Legal 1 1 }
     ∷ record { codes = FileHeader ∷ Batch N ∷ Detail N ∷ BatchTrailer ∷ []; answer = Refused 4 }

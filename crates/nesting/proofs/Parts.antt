@@ -16,7 +16,7 @@ use Rattle.nesting.proofs.Cuts.{cut-length, cut-part}
 use Rattle.nesting.proofs.Wholes.{all-append}
 
 -- what follows can be put behind
-payments-onto : (ps : List Payment) (xs ys : List Record) → paymentsOnto ps (xs ++ ys) ≡ paymentsOnto ps xs ++ ys
+pub payments-onto : (ps : List Payment) (xs ys : List Record) → paymentsOnto ps (xs ++ ys) ≡ paymentsOnto ps xs ++ ys
 payments-onto [] xs ys = refl
 payments-onto (p ∷ ps) xs ys = rw (payments-onto ps xs ys) (simp append-assoc)
 

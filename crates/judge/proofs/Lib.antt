@@ -1,0 +1,4 @@
+mod Ready
+pub mod Examples
+pub mod Theorems
+pub mod Unique

@@ -1,0 +1,111 @@
+-- What an accepted verdict says of the report: the rows have room, and the entry may write them.
+-- Assumes nothing.
+use mathlib.Core.Path.{_≡_, refl, _∙_}
+use mathlib.Core.Bool.{Bool, true, false}
+use mathlib.Core.List.{List}
+use Prim.Native.Nat.{ℕ, _+_, _*_, _%_, _<_, _≤_}
+use native.Mathlib.Omega.{arith}
+use lib.Dec.{eqb, ltb}
+use lib.ListN.{length}
+use borrow.Author.Tests.{eqb-true, eqb-false, ltb-true, ltb-false}
+use Rattle.book.specs.Book.{Contents, Lists, Usable, placed}
+use Rattle.book.specs.Book.Opened.{sound}
+use Rattle.book.proofs.Chains.{usable}
+use Rattle.nesting.specs.Division.{Division, DivisionOf}
+use Rattle.nesting.specs.Records.{records, Cuttable}
+use Rattle.verdict.specs.declared.Verdict.{Verdict}
+use Rattle.verdict.specs.Answer.{Reason, numberOf, Applies, refusal, acceptance, Judgement}
+use Rattle.verdict.specs.Answer.Reason.{Ragged, TooLong, ReportShort}
+use Rattle.verdict.specs.Answer.Judgement.{refused, accepted}
+use Rattle.rows.specs.Report.{Writable, Written, reported}
+use Rattle.judge.specs.Judged.{rowsOf, Judged}
+
+-- a reason's number is above zero
+some-number : (k : Reason) → 0 < numberOf k
+unfolding numberOf
+some-number Reason.Empty = omega arith
+some-number Reason.Ragged = omega arith
+some-number Reason.TooLong = omega arith
+some-number Reason.BookUnsound = omega arith
+some-number Reason.Nesting = omega arith
+some-number Reason.ReportShort = omega arith
+some-number Reason.LowByte = omega arith
+some-number Reason.InputSystem = omega arith
+some-number Reason.Version = omega arith
+some-number Reason.TrailerDigits = omega arith
+some-number Reason.RecordCount = omega arith
+some-number Reason.PaymentCount = omega arith
+some-number Reason.TotalAmount = omega arith
+
+-- so a refusal is never 0
+pub not-zero : (k : Reason) (m : ℕ) → numberOf k * 100000 + m ≡ 0 → ⊥
+not-zero k m e = let h = some-number k in omega arith
+
+module _ (file book : List ℕ) where
+  -- a file that is accepted is cut into whole records, and the report has room
+  module _ (room : ℕ) (none : (j : Reason) → Applies file book room j → ⊥) where
+    cuttable : Cuttable file
+    cuttable =
+        record { whole = whole (eqb (length file % 850) 0) refl; few = few (ltb (65535 * 850) (length file)) refl }
+      where
+        whole : (t : Bool) → eqb (length file % 850) 0 ≡ t → length file % 850 ≡ 0
+        whole true e = eqb-true _ _ e
+        whole false e = absurd (none Ragged (eqb-false _ _ e))
+
+        few : (t : Bool) → ltb (65535 * 850) (length file) ≡ t → length file ≤ 65535 * 850
+        few true e = absurd (none TooLong (ltb-true _ _ e))
+        few false e = ltb-false _ _ e
+
+    enough : (c : Contents) → Lists book c → (d : Division) → DivisionOf (records file) d → 64 * (1 + length (d .batches)) ≤ room
+    enough c l d h = go (ltb room (64 * (1 + length (d .batches)))) refl
+      where
+        go : (t : Bool) → ltb room (64 * (1 + length (d .batches))) ≡ t → 64 * (1 + length (d .batches)) ≤ room
+        go true e = absurd (none ReportShort (record { contents = c; lists = l; division = d; divided = h; holds = ltb-true _ _ e }))
+        go false e = ltb-false _ _ e
+
+  -- what the entry knows where the verdict is 0
+  pub record Ready (report : List ℕ) (v : Verdict) : Type 0 where
+    pub none : (j : Reason) → Applies file book (length report) j → ⊥
+    pub contents : Contents
+    pub lists : Lists book contents
+    pub division : Division
+    pub divided : DivisionOf (records file) division
+    pub is : v ≡ acceptance contents division
+
+  pub ready : (report : List ℕ) (v : Verdict) → Judgement file book (length report) v → v .answer ≡ 0 → Ready report v
+  unfolding refusal
+  ready report v (refused k m r) e = absurd (not-zero k m e)
+  ready report v (accepted n c l d h) e = record { none = n; contents = c; lists = l; division = d; divided = h; is = refl }
+
+  module _ (report : List ℕ) (v : Verdict) (r : Ready report v) where
+    pub ready-usable : Usable book (v .shelves)
+    unfolding acceptance placed
+    ready-usable = rw (r .is) (usable book (placed (r .contents)) (sound (r .contents) (r .lists)) refl)
+
+    pub ready-writable : Writable file (v .batches) report
+    unfolding acceptance
+    ready-writable =
+        rw (r .is)
+        (record {
+          cuttable = cuttable (length report) (r .none);
+          division = r .division;
+          divided = r .divided;
+          count = refl;
+          room = enough (length report) (r .none) (r .contents) (r .lists) (r .division) (r .divided);
+        })
+
+    -- the rows that were written are the promised ones
+    pub ready-judged : (after : List ℕ) → Written book (v .shelves) file (v .payments) (v .total) report after → Judged file book report 0 after
+    unfolding acceptance rowsOf
+    ready-judged after w =
+        let e : after ≡ reported report (rowsOf book (r .contents) (r .division)) = go (r .is) in
+        rw e (Judged.accepted (r .none) (r .contents) (r .lists) (r .division) (r .divided))
+      where
+        go : v ≡ acceptance (r .contents) (r .division) → after ≡ reported report (rowsOf book (r .contents) (r .division))
+        go e = w (r .division) (r .divided) ∙ rw e
+
+  -- a refusal leaves the report as it was
+  pub kept : (report : List ℕ) (v : Verdict) → Judgement file book (length report) v → (v .answer ≡ 0 → ⊥) → Judged file book report (v .answer) report
+  unfolding refusal acceptance
+  kept report v (refused k m r) n = Judged.refused k m r
+  kept report v (accepted n c l d h) z = absurd (z refl)

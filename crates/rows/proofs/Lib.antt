@@ -1,0 +1,7 @@
+mod Schedules
+mod Places
+mod Judging
+mod Sizes
+mod Reported
+mod Turns
+pub mod Unique

@@ -1,0 +1,56 @@
+-- The report of an accepted file (01 Report): the head, a row for each batch in file order, and every byte past the last row as it was.
+use Prim.Native.Nat.{ℕ, _+_, _*_, _≤_}
+use mathlib.Core.Path.{_≡_}
+use mathlib.Core.List.{List, [], _∷_, _++_, map}
+use lib.ListN.{length, drop}
+use Rattle.record.specs.Value.{held}
+use Rattle.money.specs.declared.Amount.{Amount}
+use Rattle.book.specs.declared.Book.{Book}
+use Rattle.nesting.specs.Division.{Batch, Division, DivisionOf, batchLines, lines}
+use Rattle.nesting.specs.Records.{records, Cuttable}
+use Rattle.report.specs.Rows.{rowsBytes}
+use Rattle.repeats.specs.Repeats.{scheduleNumber, member}
+use Rattle.batch.specs.declared.Row.{Row}
+use Rattle.batch.specs.Batch.{rowOf}
+
+-- the head: 0, 0, records, payments, total div 10^10, total mod 10^10, batches, 0
+unfoldable pub headRow : ℕ → ℕ → Amount → ℕ → List ℕ
+headRow records payments total batches = 0 ∷ 0 ∷ records ∷ payments ∷ total .high ∷ total .low ∷ batches ∷ 0 ∷ []
+
+-- a batch: number of its first record, its record count, payments, total div and mod 10^10, reason, record at fault, field at fault
+unfoldable pub batchRow : Row → List ℕ
+batchRow r =
+    r .first_record ∷ r .records ∷ r .payments ∷ r .total .high ∷ r .total .low ∷ r .finding .reason ∷ r .finding .record_number ∷ r .finding .field ∷ []
+
+-- a batch's schedule number (field 6)
+abbrev pub scheduleOf : Batch → List ℕ
+scheduleOf b = held (b .header) scheduleNumber
+
+-- the rows of batches in file order, after the earlier ones; the first has the header's number n
+unfoldable pub batchRows : List ℕ → Book → ℕ → List Batch → List Batch → List (List ℕ)
+batchRows bytes book n earlier [] = []
+batchRows bytes book n earlier (b ∷ bs) =
+    batchRow (rowOf bytes book (member (scheduleOf b) (map scheduleOf earlier)) n b)
+    ∷ batchRows bytes book (n + length (batchLines b)) (earlier ++ b ∷ []) bs
+
+-- all rows; FH is record 1
+unfoldable pub reportRows : List ℕ → Book → ℕ → Amount → Division → List (List ℕ)
+reportRows bytes book payments total d =
+    headRow (length (lines d)) payments total (length (d .batches)) ∷ batchRows bytes book 2 [] (d .batches)
+
+-- the report afterwards: the rows from its start, then what it held
+unfoldable pub reported : List ℕ → List (List ℕ) → List ℕ
+reported before rows = rowsBytes rows ++ drop (64 * length rows) before
+
+-- a file that nests, and a report that has room for its rows (01 File answers, 6)
+pub record Writable (file : List ℕ) (batches : ℕ) (report : List ℕ) : Type 0 where
+  pub cuttable : Cuttable file
+  pub division : Division
+  pub divided : DivisionOf (records file) division
+  pub count : length (division .batches) ≡ batches
+  pub room : 64 * (1 + batches) ≤ length report
+
+-- the rows are those of the file's division
+abbrev pub Written : List ℕ → Book → List ℕ → ℕ → Amount → List ℕ → List ℕ → Type 0
+Written bytes book file payments total before after =
+    (d : Division) → DivisionOf (records file) d → after ≡ reported before (reportRows bytes book payments total d)

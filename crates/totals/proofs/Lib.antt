@@ -1,0 +1,4 @@
+mod Codes
+mod Turns
+pub mod Divided
+pub mod Unique

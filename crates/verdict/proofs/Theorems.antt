@@ -1,0 +1,64 @@
+-- One verdict only, for the same file, book and room.
+-- Assumes nothing.
+use mathlib.Core.Path.{_≡_, refl, sym, _∙_, ap, subst}
+use mathlib.Core.Bool.{Bool, true, false}
+use mathlib.Core.List.{List}
+use Prim.Native.Nat.{ℕ, _≤_}
+use native.Mathlib.Omega.{arith}
+use lib.Dec.{ltb}
+use borrow.Author.Tests.{ltb-true, ltb-false}
+use Rattle.book.proofs.Chains.{lists-one}
+use Rattle.nesting.specs.declared.Verdict.{Verdict as Nesting-Verdict}
+use Rattle.nesting.specs.declared.Verdict.the-variants as nested
+use Rattle.nesting.specs.Records.{records}
+use Rattle.nesting.specs.Promise.{Nested}
+use Rattle.nesting.proofs.OneDivision.{one-division}
+use Rattle.nesting.proofs.Theorems.{one-answer}
+use Rattle.verdict.specs.declared.Verdict.{Verdict}
+use Rattle.verdict.specs.Answer.{Reason, numberOf, refusal, Names, Refused, Judgement}
+use Rattle.verdict.specs.Answer.Reason.{Empty, Ragged, TooLong, BookUnsound, Nesting, ReportShort, LowByte, InputSystem, Version, TrailerDigits, RecordCount, PaymentCount, TotalAmount}
+use Rattle.verdict.specs.Answer.Judgement.{refused, accepted}
+use Rattle.verdict.proofs.Numbers.{one-reason}
+
+-- the record that a refusal of nesting names
+recordIn : Nesting-Verdict → ℕ
+recordIn (nested.Legal b p) = 0
+recordIn (nested.Refused k) = k
+
+module _ (file book : List ℕ) (room : ℕ) where
+  -- a reason names one record
+  one-record : (k : Reason) (m n : ℕ) → Names file book room k m → Names file book room k n → m ≡ n
+  unfolding recordIn
+  one-record Empty m n p q = p ∙ sym q
+  one-record Ragged m n p q = p ∙ sym q
+  one-record TooLong m n p q = p ∙ sym q
+  one-record BookUnsound m n p q = p ∙ sym q
+  one-record Nesting m n p q = ap recordIn (one-answer (records file) (nested.Refused m) (nested.Refused n) (Nested.refused m p) (Nested.refused n q))
+  one-record ReportShort m n p q = p ∙ sym q
+  one-record LowByte m n p q = p ∙ sym q
+  one-record InputSystem m n p q = p ∙ sym q
+  one-record Version m n p q = p ∙ sym q
+  one-record TrailerDigits m n p q = p ∙ sym q
+  one-record RecordCount m n p q = p ∙ sym q
+  one-record PaymentCount m n p q = p ∙ sym q
+  one-record TotalAmount m n p q = p ∙ sym q
+
+  -- of two refusals neither comes before the other
+  not-before : (k j : Reason) (m n : ℕ) → Refused file book room k m → Refused file book room j n → numberOf k ≤ numberOf j
+  not-before k j m n p q = go (ltb (numberOf j) (numberOf k)) refl
+    where
+      go : (b : Bool) → ltb (numberOf j) (numberOf k) ≡ b → numberOf k ≤ numberOf j
+      go true e = absurd (p .first j (ltb-true _ _ e) (q .applies))
+      go false e = ltb-false _ _ e
+
+  one-refusal : (k j : Reason) (m n : ℕ) → Refused file book room k m → Refused file book room j n → refusal k m ≡ refusal j n
+  one-refusal k j m n p q =
+      let e : k ≡ j = one-reason k j (omega (arith, not-before k j m n p q, not-before j k n m q p)) in
+      let s : m ≡ n = one-record j m n (subst (λ (i : Reason). Names file book room i m) e (p .names)) (q .names) in
+      rw (e, s)
+
+  pub one-judgement : (v w : Verdict) → Judgement file book room v → Judgement file book room w → v ≡ w
+  one-judgement v w (refused k m p) (refused j n q) = one-refusal k j m n p q
+  one-judgement v w (refused k m p) (accepted n c l d h) = absurd (n k (p .applies))
+  one-judgement v w (accepted n c l d h) (refused k m p) = absurd (n k (p .applies))
+  one-judgement v w (accepted n c l d h) (accepted o b i e g) = rw (lists-one book c b l i, one-division (records file) d e h g)

@@ -1,0 +1,63 @@
+use Rattle.verdict.proofs.Laws.{length-small}
+use Rattle.verdict.proofs.Opening.{unfit, bookless, fit-cuttable, unnested, named-small, divided}
+use borrow.Author.Tests.{not-true, not-false}
+use borrow.Author.Needs.{needs}
+use Rattle.verdict.proofs.file_answer.Statement.{statement}
+use Rattle.verdict.proofs.file_answer.Tie as tie
+
+length-reason-requires : tie.Need-length-reason-requires
+length-reason-requires c κs = search needs
+
+refuse-requires : tie.Need-refuse-requires
+refuse-requires c κs = search (needs, length-small)
+
+returns : tie.Need-returns
+returns c = search (needs, unfit)
+
+read-book-requires : tie.Need-read-book-requires
+read-book-requires c κs = search needs
+
+refuse-requires-2 : tie.Need-refuse-requires-2
+refuse-requires-2 c κs = search needs
+
+returns-2 : tie.Need-returns-2
+returns-2 c = search (needs, bookless, not-true)
+
+nesting-requires : tie.Need-nesting-requires
+nesting-requires c κs = search (needs, fit-cuttable)
+
+enum-known-nested : tie.Need-enum-known-nested
+enum-known-nested c = search needs
+
+refuse-requires-3 : tie.Need-refuse-requires-3
+refuse-requires-3 c κs = search (needs, named-small, not-false)
+
+enum-known-nested-2 : tie.Need-enum-known-nested-2
+enum-known-nested-2 c = search needs
+
+judge-divided-requires : tie.Need-judge-divided-requires
+judge-divided-requires c κs = search (needs, divided, not-false)
+
+returns-3 : tie.Need-returns-3
+returns-3 c = search (needs, unnested, not-false)
+
+returns-4 : tie.Need-returns-4
+returns-4 c = search needs
+
+pub file-answer-spec : {M : Type 1} → statement M
+file-answer-spec =
+    tie.close
+    (tie.spec
+    length-reason-requires
+    refuse-requires
+    returns
+    read-book-requires
+    refuse-requires-2
+    returns-2
+    nesting-requires
+    enum-known-nested
+    refuse-requires-3
+    enum-known-nested-2
+    judge-divided-requires
+    returns-3
+    returns-4)

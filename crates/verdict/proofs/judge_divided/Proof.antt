@@ -1,0 +1,45 @@
+use Rattle.verdict.proofs.Divided.{batches-small, short, unclean-small, low, onward}
+use borrow.Author.Needs.{needs}
+use Rattle.verdict.proofs.judge_divided.Statement.{statement}
+use Rattle.verdict.proofs.judge_divided.Tie as tie
+
+add-rows : tie.Need-add-rows
+add-rows c = let k = batches-small _ _ _ _ _ (c .before .before .pre) in search needs
+
+mul-wanted : tie.Need-mul-wanted
+mul-wanted c = let k = batches-small _ _ _ _ _ (c .before .before .pre) in search needs
+
+refuse-requires : tie.Need-refuse-requires
+refuse-requires c κs = search (needs, unclean-small)
+
+returns : tie.Need-returns
+returns c = search (needs, short)
+
+first-unclean-requires : tie.Need-first-unclean-requires
+first-unclean-requires c κs = search needs
+
+refuse-requires-2 : tie.Need-refuse-requires-2
+refuse-requires-2 c κs = search (needs, unclean-small)
+
+returns-2 : tie.Need-returns-2
+returns-2 c = search (needs, low)
+
+judge-frame-requires : tie.Need-judge-frame-requires
+judge-frame-requires c κs = search needs
+
+returns-3 : tie.Need-returns-3
+returns-3 c = search (needs, onward)
+
+pub judge-divided-spec : {M : Type 1} → statement M
+judge-divided-spec =
+    tie.close
+    (tie.spec
+    add-rows
+    mul-wanted
+    refuse-requires
+    returns
+    first-unclean-requires
+    refuse-requires-2
+    returns-2
+    judge-frame-requires
+    returns-3)

@@ -1,0 +1,155 @@
+// The answer about a file (01 File answers): thirteen tests in the stated order. Nothing is written.
+mod frame;
+mod reason;
+
+use book::Book;
+use book::Section;
+use money::Amount;
+use record::Line;
+ghost use mathlib.Core.Path.{_≡_};
+ghost use Prim.Native.Nat.{_≤_};
+ghost use lib.ListN.{length};
+ghost use Rattle.book.specs.Book.{shut};
+ghost use Rattle.verdict.specs.Answer.{Judgement};
+ghost use Rattle.verdict.specs.Order.{refusalBy, lengthReason, Known, Framed};
+
+// The returned number; and, of an accepted file, where the book's sections stand, its batches, its payments and their exact total.
+pub struct Verdict {
+    pub answer: u64,
+    pub shelves: Book,
+    pub batches: usize,
+    pub payments: usize,
+    pub total: Amount,
+}
+
+// No book.
+fn no_book() -> Book
+    ensures { λ r. ⌜ r ≡ shut ⌝ }
+{
+    let none = Section {
+        start: 0,
+        count: 0,
+        code: 0,
+        entry: 0,
+    };
+    Book {
+        sound: false,
+        systems: none,
+        locations: none,
+        betcs: none,
+        types: none,
+        states: none,
+        countries: none,
+        currencies: none,
+    }
+}
+
+// A refusal: reason * 100,000 + record, and nothing else.
+fn refuse(reason: u64, record_number: usize) -> Verdict
+    requires { ⌜ (reason ≤ 13) × («record_number» ≤ 65536) ⌝ }
+    ensures { λ r. ⌜ r ≡ refusalBy reason «record_number» ⌝ }
+{
+    let answer = reason * 100000 + record_number as u64;
+    let shelves = no_book();
+    let total = Amount { high: 0, low: 0 };
+    Verdict {
+        answer,
+        shelves,
+        batches: 0,
+        payments: 0,
+        total,
+    }
+}
+
+// 1 to 3 by the file's length, or 0.
+fn length_reason(file: &[u8]) -> u64
+    ensures { λ r. ⌜ r ≡ lengthReason (length (now (file .entry))) ⌝ }
+{
+    if file.len() == 0 {
+        return reason::EMPTY;
+    }
+    if file.len() % 850 != 0 {
+        return reason::RAGGED;
+    }
+    if 55704750 < file.len() {
+        return reason::TOO_LONG;
+    }
+    0
+}
+
+// 8 to 13 by the file's first and last record, or accepted.
+fn judge_frame(file: &[u8], book: &[u8], shelves: Book, batches: usize, payments: usize) -> Verdict
+    requires { ⌜ Known (now file) (now book) shelves batches payments ⌝ }
+    ensures { λ r. ⌜ Framed (now (file .entry)) (now (book .entry)) r ⌝ }
+{
+    let systems = shelves.systems;
+    let header = frame::header_reason(book, systems, &file[0..850], Line { number: 1 });
+    if header != 0 {
+        return refuse(header, 1);
+    }
+    let end = file.len();
+    let start = end - 850;
+    let number = end / 850;
+    let total = totals::details_total(file);
+    let trailer = frame::trailer_reason(&file[start..end], Line { number }, payments, total);
+    if trailer != 0 {
+        return refuse(trailer, number);
+    }
+    Verdict {
+        answer: 0,
+        shelves,
+        batches,
+        payments,
+        total,
+    }
+}
+
+// 6 and 7, and those that follow.
+fn judge_divided(
+    file: &[u8],
+    book: &[u8],
+    room: usize,
+    shelves: Book,
+    batches: usize,
+    payments: usize,
+) -> Verdict
+    requires { ⌜ Known (now file) (now book) shelves batches payments ⌝ }
+    ensures { λ r. ⌜ Judgement (now (file .entry)) (now (book .entry)) room r ⌝ }
+{
+    let rows = 1 + batches;
+    let wanted = 64 * rows;
+    if room < wanted {
+        return refuse(reason::REPORT_SHORT, 0);
+    }
+    let unclean = characters::first_unclean(file);
+    if unclean != 0 {
+        return refuse(reason::LOW_BYTE, unclean);
+    }
+    judge_frame(file, book, shelves, batches, payments)
+}
+
+// The answer about a file and the room of a report, in document 01's order. Nothing is written.
+pub fn file_answer(file: &[u8], book: &[u8], room: usize) -> Verdict
+    ensures { λ r. ⌜ Judgement (now (file .entry)) (now (book .entry)) room r ⌝ }
+{
+    let unfit = length_reason(file);
+    if unfit != 0 {
+        return refuse(unfit, 0);
+    }
+    let shelves = book::reading::read_book(book);
+    if !shelves.sound {
+        return refuse(reason::BOOK_UNSOUND, 0);
+    }
+    let nested = nesting::nesting(file);
+    match nested {
+        nesting::Verdict::Refused(number) => refuse(reason::NESTING, number),
+        nesting::Verdict::Legal(batches, payments) => judge_divided(
+            file,
+            book,
+            room,
+            shelves,
+            batches,
+            payments,
+        ),
+    }
+}
