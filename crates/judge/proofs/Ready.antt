@@ -3,7 +3,7 @@
 use mathlib.Core.Path.{_≡_, refl, _∙_}
 use mathlib.Core.Bool.{Bool, true, false}
 use mathlib.Core.List.{List}
-use Prim.Native.Nat.{ℕ, _+_, _*_, _%_, _<_, _≤_}
+use Prim.Native.Nat.{ℕ, _+_, _*_, _%_, _≤_}
 use native.Mathlib.Omega.{arith}
 use lib.Dec.{eqb, ltb}
 use lib.ListN.{length}
@@ -17,27 +17,11 @@ use Rattle.verdict.specs.declared.Verdict.{Verdict}
 use Rattle.verdict.specs.Answer.{Reason, numberOf, Applies, refusal, acceptance, Judgement}
 use Rattle.verdict.specs.Answer.Reason.{Ragged, TooLong, ReportShort}
 use Rattle.verdict.specs.Answer.Judgement.{refused, accepted}
+use Rattle.verdict.proofs.Numbers.{some-number}
 use Rattle.rows.specs.Report.{Writable, Written, reported}
 use Rattle.judge.specs.Judged.{rowsOf, Judged}
 
--- a reason's number is above zero
-some-number : (k : Reason) → 0 < numberOf k
-unfolding numberOf
-some-number Reason.Empty = omega arith
-some-number Reason.Ragged = omega arith
-some-number Reason.TooLong = omega arith
-some-number Reason.BookUnsound = omega arith
-some-number Reason.Nesting = omega arith
-some-number Reason.ReportShort = omega arith
-some-number Reason.LowByte = omega arith
-some-number Reason.InputSystem = omega arith
-some-number Reason.Version = omega arith
-some-number Reason.TrailerDigits = omega arith
-some-number Reason.RecordCount = omega arith
-some-number Reason.PaymentCount = omega arith
-some-number Reason.TotalAmount = omega arith
-
--- so a refusal is never 0
+-- a refusal is never 0
 pub not-zero : (k : Reason) (m : ℕ) → numberOf k * 100000 + m ≡ 0 → ⊥
 not-zero k m e = let h = some-number k in omega arith
 

@@ -3,10 +3,10 @@
 use mathlib.Core.Path.{_≡_, refl}
 use mathlib.Core.Bool.{Bool, true, false}
 use mathlib.Core.List.{List, [], _∷_}
-use Prim.Native.Nat.{ℕ, _+_, _*_, _/_, _<_, _≤_}
+use Prim.Native.Nat.{ℕ, _+_, _*_, _/_, _%_, _<_, _≤_}
 use native.Mathlib.Omega.{arith}
 use lib.Dec.{eqb, ltb}
-use lib.ListN.{length}
+use lib.ListN.{length, replicate, length-replicate}
 use borrow.Author.Tests.{eqb-true, eqb-false, ltb-true, ltb-false}
 use Rattle.record.specs.Choice.{choose}
 use Rattle.record.specs.Value.{held}
@@ -19,28 +19,9 @@ use Rattle.nesting.proofs.Cuts.{cut-length}
 use Rattle.characters.specs.Characters.{clean, firstUnclean}
 use Rattle.totals.specs.Totals.{paidByAll}
 use Rattle.verdict.specs.Answer.{Reason, numberOf, totalCountRecords, totalCount, totalAmount, Applies, Names, Refused}
+use Rattle.verdict.proofs.Numbers.{one-reason}
 use Rattle.judge.specs.Judged.{Judged}
 use Rattle.judge.proofs.Ready.{not-zero}
-
--- reasons are told apart by their numbers
-abbrev IsNesting : Reason → Type 0
-IsNesting k = k ≡ Reason.Nesting
-
-only-five : (k : Reason) → numberOf k ≡ 5 → IsNesting k
-unfolding numberOf
-only-five Reason.Empty e = absurd (omega arith)
-only-five Reason.Ragged e = absurd (omega arith)
-only-five Reason.TooLong e = absurd (omega arith)
-only-five Reason.BookUnsound e = absurd (omega arith)
-only-five Reason.Nesting e = refl
-only-five Reason.ReportShort e = absurd (omega arith)
-only-five Reason.LowByte e = absurd (omega arith)
-only-five Reason.InputSystem e = absurd (omega arith)
-only-five Reason.Version e = absurd (omega arith)
-only-five Reason.TrailerDigits e = absurd (omega arith)
-only-five Reason.RecordCount e = absurd (omega arith)
-only-five Reason.PaymentCount e = absurd (omega arith)
-only-five Reason.TotalAmount e = absurd (omega arith)
 
 -- the record named has a number of five digits
 choose-small : (t : Bool) (a b n : ℕ) → a ≤ n → b ≤ n → choose t a b ≤ n
@@ -81,7 +62,8 @@ module _ (file book : List ℕ) (w : Cuttable file) where
 
   -- a reason whose number is 5, with its record
   told : (room : ℕ) (k : Reason) (m : ℕ) → Refused file book room k m → numberOf k ≡ 5 → ForNesting (numberOf k * 100000 + m)
-  told room k m r e = go (only-five k e) (r .names)
+  unfolding numberOf
+  told room k m r e = go (one-reason k Reason.Nesting e) (r .names)
     where
       go : k ≡ Reason.Nesting → Names file book room k m → ForNesting (numberOf k * 100000 + m)
       go q n = record { at = m; is = omega (arith, e); named = rw q at n }
@@ -150,3 +132,45 @@ accepted-counts file book report after answer (Judged.accepted n c l x g) z d h 
       payments = same-number _ _ (λ e. n Reason.PaymentCount (record { contents = c; lists = l; division = d; divided = h; holds = e }));
       amount = same-number _ _ (λ e. n Reason.TotalAmount (record { contents = c; lists = l; division = d; divided = h; holds = e }));
     }
+
+-- a file of whole records that is longer than 65,535 of them is answered 3, whatever the book and the report; and there is one, so that no
+-- answer is without an input (the program `examples` has inputs for the others)
+module _ (file book : List ℕ) (whole : length file % 850 ≡ 0) (long : 65535 * 850 < length file) where
+  third : (room : ℕ) (k : Reason) (m : ℕ) → Refused file book room k m → (s t : Bool) → ltb (numberOf k) 3 ≡ s → ltb 3 (numberOf k) ≡ t → numberOf k ≡ 3
+  unfolding numberOf
+  third room k m r true t e f = absurd (sooner k (r .applies) (ltb-true (numberOf k) 3 e))
+    where
+      sooner : (j : Reason) → Applies file book room j → numberOf j < 3 → ⊥
+      sooner Reason.Empty a h = omega arith
+      sooner Reason.Ragged a h = a whole
+      sooner Reason.TooLong a h = omega arith
+      sooner Reason.BookUnsound a h = omega arith
+      sooner Reason.Nesting a h = omega arith
+      sooner Reason.ReportShort a h = omega arith
+      sooner Reason.LowByte a h = omega arith
+      sooner Reason.InputSystem a h = omega arith
+      sooner Reason.Version a h = omega arith
+      sooner Reason.TrailerDigits a h = omega arith
+      sooner Reason.RecordCount a h = omega arith
+      sooner Reason.PaymentCount a h = omega arith
+      sooner Reason.TotalAmount a h = omega arith
+  third room k m r false true e f = absurd (r .first Reason.TooLong (ltb-true 3 (numberOf k) f) long)
+  third room k m r false false e f = omega (arith, ltb-false (numberOf k) 3 e, ltb-false 3 (numberOf k) f)
+
+  named-none : (room : ℕ) (k : Reason) (m : ℕ) → k ≡ Reason.TooLong → Names file book room k m → m ≡ 0
+  named-none room k m e n = rw e at n
+
+  pub too-long-refused : (report after : List ℕ) (answer : ℕ) → Judged file book report answer after → answer ≡ 300000
+  unfolding numberOf
+  too-long-refused report after answer (Judged.refused k m r) =
+      let e = third (length report) k m r (ltb (numberOf k) 3) (ltb 3 (numberOf k)) refl refl in
+      let z = named-none (length report) k m (one-reason k Reason.TooLong e) (r .names) in
+      omega (arith, e, z)
+  too-long-refused report after answer (Judged.accepted n c l d g) = absurd (n Reason.TooLong long)
+
+-- bytes of any length
+blanks : (n : ℕ) → (file : List ℕ) × (length file ≡ n)
+blanks n = (replicate n 0x40, length-replicate n 0x40)
+
+pub a-file-too-long : (file : List ℕ) × (length file % 850 ≡ 0) × (65535 * 850 < length file)
+a-file-too-long = let l = blanks 55705600 .1 in (blanks 55705600 .0, omega (arith, l), omega (arith, l))

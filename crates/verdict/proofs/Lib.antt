@@ -1,4 +1,4 @@
-mod Numbers
+pub mod Numbers
 mod Ends
 mod Tests
 mod Answers

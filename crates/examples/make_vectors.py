@@ -1,0 +1,978 @@
+#!/usr/bin/env python3
+"""Writes what this program is run on, and what documents 01 and 004 say of it.
+
+data/records.bin holds sound records, data/book.bin a code book, stdin a table with a case a line, stdout what the judge has to answer.
+The judge below goes over whole lists of records and keeps no state from one to the next. With the word `counts` it prints how many
+cases have each file answer, and how many batches each reason and field.
+"""
+import collections
+import datetime
+import pathlib
+import random
+import re
+import sys
+
+here = pathlib.Path(__file__).parent
+LETTERS = "NCWIA"
+VOUCHERS = "NWIA"  # the batches that have a voucher (004 fields 7 to 14)
+LABEL = 48
+REPORT = 1024
+
+# 004 chapter 2: start and end position of each field that document 01 names, by the records that have it
+PLACES = {
+    2: (3, 42), 3: (43, 45),
+    6: (3, 16), 7: (17, 22), 8: (23, 32), 9: (33, 52), 10: (53, 56), 12: (60, 68), 13: (69, 77), 14: (78, 85), 15: (86, 89),
+    16: (90, 90), 17: (91, 98), 18: (99, 102), 19: (103, 110), 20: (111, 114),
+    23: (3, 22), 24: (23, 42), 25: (43, 43), 26: (44, 90), 28: (107, 131), 29: (132, 139), 35: (350, 351), 36: (352, 356),
+    38: (361, 362), 42: (426, 434), 43: (435, 443), 44: (444, 446), 48: (506, 507), 51: (526, 545), 52: (546, 548),
+    54: (560, 573), 55: (574, 593), 56: (594, 603), 58: (654, 661), 59: (662, 669), 62: (674, 676),
+    65: (3, 22), 66: (23, 172), 77: (3, 22), 80: (28, 30), 84: (40, 43), 85: (44, 46), 86: (47, 54), 87: (55, 74), 88: (75, 75),
+    91: (3, 22), 96: (131, 150), 99: (3, 10), 100: (11, 30), 103: (3, 20), 104: (21, 38), 105: (39, 58),
+}
+
+# 004 fields 4, 11, 21, 63, 75, 89, 97, 101, 106: start and end position by the record's code
+FILLERS = {"FH": [(46, 850)], "DX": [(351, 850)], "DT": [(76, 850)], "DP": [(151, 850)], "BT": [(31, 850)], "FT": [(59, 850)]}
+FILLERS.update({"B" + letter: [(57, 59), (115, 850)] for letter in LETTERS})
+FILLERS.update({"D" + letter: [(677, 850)] for letter in LETTERS})
+
+
+def ebcdic(text):
+    return text.encode("cp037")
+
+
+def held(rec, field):
+    start, end = PLACES[field]
+    return bytes(rec[start - 1:end]).decode("cp037")
+
+
+# ---- the code book (01 Code book)
+
+KINDS = [(1, 40, False), (2, 8, True), (3, 8, True), (4, 25, False), (5, 2, False), (6, 2, False), (7, 3, False)]  # width; a flag
+
+
+def parsed(book):
+    """Of each kind, its codes with their flags; None where the book is unsound."""
+    if len(book) > 16777216:
+        return None
+    lists = {}
+    for kind, width, flagged in KINDS:
+        length = int.from_bytes(book[:4], "little")
+        if len(book) < 6 or len(book) < 4 + length or length < 2 or int.from_bytes(book[4:6], "little") != kind:
+            return None
+        body, book = book[6:4 + length], book[4 + length:]
+        entry = width + flagged
+        if len(body) % entry:
+            return None
+        entries = [body[i:i + entry] for i in range(0, len(body), entry)]
+        codes = [e[:width] for e in entries]
+        if any(a >= b for a, b in zip(codes, codes[1:])) or flagged and any(e[width] > 1 for e in entries):
+            return None
+        lists[kind] = {c.decode("cp037"): e[width] if flagged else None for c, e in zip(codes, entries)}
+    return None if book else lists
+
+
+# ---- nesting (01 Nesting)
+
+def code_of(rec):
+    return bytes(rec[:2]).decode("cp037")
+
+
+def codes_of(records):
+    return "".join(map(code_of, records))
+
+
+def is_header(rec):
+    return code_of(rec) in ["B" + letter for letter in LETTERS]
+
+
+def is_detail(rec):
+    return code_of(rec) in ["D" + letter for letter in LETTERS]
+
+
+def ident(rec):
+    return bytes(rec[2:22])
+
+
+def parts(items, begins):
+    """The items cut before each that begins a part; what stands before the first is left out."""
+    starts = [i for i, item in enumerate(items) if begins(item)] + [len(items)]
+    return [items[i:j] for i, j in zip(starts, starts[1:])]
+
+
+def legal(records):
+    codes = codes_of(records)
+    if not re.fullmatch(r"FH(?:B([NCWIA])(?:D\1(?:DX)+(?:DT){0,100}(?:DP){0,100})+BT)+FT", codes, re.S):
+        return False
+    kinds = {code_of(r) for r in records if is_header(r)}
+    if "BC" in kinds and len(kinds) > 1:
+        return False
+    payments = parts([r for r in records if code_of(r)[0] == "D"], is_detail)
+    return all(len(set(map(ident, p))) == 1 for p in payments)
+
+
+def bare(code, ident=b""):
+    return ebcdic(code) + ident
+
+
+def begins_legal_file(records):
+    """Whether some legal file begins so: one of the six ways to go on ends in one."""
+    headers, details = [r for r in records if is_header(r)], [r for r in records if is_detail(r)]
+    letter = code_of(headers[-1])[1] if headers else "N"
+    last = ident(details[-1]) if details else b""
+    ends = [bare("FH"), bare("B" + letter), bare("D" + letter, last), bare("DX", last), bare("BT"), bare("FT")]
+    return any(legal(records + ends[k:]) for k in range(len(ends) + 1))
+
+
+def nesting_fault(records):
+    """The first record that begins no legal file, or last + 1; 0 where the file is legal."""
+    if legal(records):
+        return 0
+    for n in range(1, len(records) + 1):
+        if not begins_legal_file(records[:n]):
+            return n
+    return len(records) + 1
+
+
+# ---- the judge of a batch (01 Batch reasons): what is wrong with a value is a reason, or 0
+
+def blank(value):
+    return not value.strip(" ")
+
+
+def is_digits(value):
+    return all(c in "0123456789" for c in value)
+
+
+def cents(value):
+    """An amount that is not 20 digits counts as zero in every sum."""
+    return int(value) if is_digits(value) else 0
+
+
+def first(*tests):
+    return next((reason for fails, reason in tests if fails), 0)
+
+
+def required(value):
+    return first((blank(value), 1))
+
+
+def number(value):
+    return first((blank(value), 1), (not is_digits(value), 2))
+
+
+def listed(value, values):
+    return first((blank(value), 1), (value not in [v.ljust(len(value)) for v in values], 3))
+
+
+def in_book(value, codes):
+    return first((blank(value), 1), (value not in codes, 4))
+
+
+def if_filled(value, reason):
+    return 0 if blank(value) else reason
+
+
+def is_day(year, month, day):
+    try:
+        datetime.date(int(year), int(month), int(day))
+        return is_digits(year + month + day)
+    except ValueError:
+        return False
+
+
+def dashed_date(v):
+    return first((blank(v), 1), (v[4] + v[7] != "--" or not is_day(v[0:4], v[5:7], v[8:10]), 5))
+
+
+def plain_date(v):
+    return first((blank(v), 1), (not is_day(v[0:4], v[4:6], v[6:8]), 5))
+
+
+def routing(v):
+    prefixes = [*range(0, 13), *range(21, 33), *range(61, 73), 80]
+    return number(v) or first((int(v[:2]) not in prefixes, 3))
+
+
+def header_faults(h, letter, book, repeats):
+    v = lambda field: held(h, field)
+    yield 6, first((blank(v(6)), 1), (repeats, 6), (letter == "C" and v(6) != v(18) + v(19) + "  ", 7))
+    if letter in VOUCHERS:
+        yield 7, first((blank(v(7)), 1), (" " in v(7), 2))
+        yield 8, dashed_date(v(8))
+        yield 9, number(v(9))
+        yield 10, listed(v(10), ["5515", "215"])
+        if letter == "W":
+            yield 12, routing(v(12))
+        if letter == "N":
+            yield 13, routing(v(13))
+        yield 14, in_book(v(14), book[2])
+    else:
+        yield 15, number(v(15))
+        yield 16, listed(v(16), ["0"])
+        yield 17, plain_date(v(17))
+        yield 18, number(v(18)) or first((not 1000 <= int(v(18)) <= 9998, 8))
+        yield 19, number(v(19))
+        yield 20, number(v(20)) or first((not 1 <= int(v(20)[:2]) <= 12, 5))
+
+
+def detail_faults(d, letter, book, h, earlier):
+    """`earlier` are the details of the earlier payments."""
+    v = lambda field: held(d, field)
+    check = letter == "C"
+    own = held(h, 18) + v(58) + " " * 8
+    yield 23, first((blank(v(23)), 1), (v(23) in [held(e, 23) for e in earlier], 6), (check and v(23) != own, 7))
+    if check:
+        yield 24, number(v(24)) or first((int(v(24)) > 9999999999, 8), (v(25) == "1" and int(v(24)) != 0, 8))
+        yield 25, listed(v(25), ["0", "1"])
+    else:
+        yield 24, number(v(24)) or first((int(v(24)) == 0, 8))
+    yield 26, required(v(26))
+    yield 28, in_book(v(28), book[4])
+    if check:
+        yield 29, in_book(v(29), book[2])
+    yield 35, if_filled(v(35), in_book(v(35), book[5]))
+    yield 36, 0 if v(36) == "00000" else if_filled(v(36), number(v(36)))
+    yield 38, if_filled(v(38), in_book(v(38), book[6]))
+    if letter == "W":
+        yield 42, routing(v(42))
+    if letter == "N":
+        yield 43, routing(v(43))
+    if letter == "W":
+        yield 44, listed(v(44), "CTR BTR CTP CKS DEP DRW DRC".split())
+    if letter == "N":
+        yield 48, 0 if v(48) == "00" else if_filled(v(48), listed(v(48), "22 32 42 52".split()))
+    if letter == "I":
+        yield 51, if_filled(v(51), listed(v(51), ["Electronic", "Check", "Western Union"]))
+    yield 52, if_filled(v(52), in_book(v(52), book[7]))
+    if letter == "A":
+        yield 54, required(v(54))
+        yield 55, required(v(55))
+        yield 56, dashed_date(v(56))
+    if check:
+        start = held(h, 19)
+        yield 58, number(v(58)) or first((is_digits(start) and int(v(58)) != int(start) + len(earlier), 7))
+        yield 59, plain_date(v(59))
+    if letter == "N":
+        yield 62, listed(v(62), "CCD PPD IAT CTX".split())
+
+
+def party_faults(x, letter):
+    if letter != "A":
+        yield 66, required(held(x, 66))
+
+
+def account_faults(t, book, reporter):
+    for field in (80, 84, 85):
+        yield field, first((reporter and blank(held(t, field)), 1))
+    betc = held(t, 86)
+    yield 86, first((reporter and blank(betc), 1)) or if_filled(betc, in_book(betc, book[3]))
+    yield 87, number(held(t, 87))
+
+
+def procurement_faults(p, alone):
+    yield 96, 0 if alone and blank(held(p, 96)) else number(held(p, 96))
+
+
+def balances(paid, accounts, book):
+    amounts = [cents(held(t, 87)) for t in accounts]
+    if len(accounts) < 2:
+        return sum(amounts) == paid or not accounts
+    signs = [-1 if not blank(held(t, 86)) and book[3].get(held(t, 86)) else 1 for t in accounts]
+    return sum(sign * amount for sign, amount in zip(signs, amounts)) == paid
+
+
+def procures(paid, procurements):
+    values = [held(p, 96) for p in procurements]
+    if not values or len(values) == 1 and blank(values[0]):
+        return True
+    return sum(map(cents, values)) == paid
+
+
+def trailer_faults(t, payments, total):
+    yield 99, number(held(t, 99)) or first((int(held(t, 99)) != payments, 13))
+    yield 100, number(held(t, 100)) or first((int(held(t, 100)) != total, 14))
+
+
+def of_code(payment, code):
+    return [(n, r) for n, r in payment if code_of(r) == code]
+
+
+def paid_by(payment):
+    return cents(held(payment[0][1], 24))
+
+
+def payments_of(batch):
+    return parts(batch[1:-1], lambda numbered: is_detail(numbered[1]))
+
+
+def faults(batch, book, repeats):
+    """All that is wrong with a batch of numbered records, in document 01's order: reason, record, field; reason 0 where nothing is."""
+    (head, h), (end, t) = batch[0], batch[-1]
+    letter = code_of(h)[1]
+    payments = payments_of(batch)
+    details = [p[0][1] for p in payments]
+    yield from ((reason, head, field) for field, reason in header_faults(h, letter, book, repeats))
+    for i, payment in enumerate(payments):
+        n, d = payment[0]
+        location = held(d, 29) if letter == "C" else held(h, 14)
+        reporter = not blank(location) and book[2].get(location) == 1
+        accounts, procurements = of_code(payment, "DT"), of_code(payment, "DP")
+        yield from ((reason, n, field) for field, reason in detail_faults(d, letter, book, h, details[:i]))
+        for k, r in of_code(payment, "DX"):
+            yield from ((reason, k, field) for field, reason in party_faults(r, letter))
+        for k, r in accounts:
+            yield from ((reason, k, field) for field, reason in account_faults(r, book, reporter))
+        for k, r in procurements:
+            yield from ((reason, k, field) for field, reason in procurement_faults(r, len(procurements) == 1))
+        yield first((not balances(paid_by(payment), [r for _, r in accounts], book), 9)), n, 87
+        yield first((not procures(paid_by(payment), [r for _, r in procurements]), 10)), n, 96
+        yield first((reporter and not accounts, 11)), n, 76
+    yield first((sum(len(of_code(p, "DT")) for p in payments) > 1000, 12)), head, 76
+    total = sum(map(paid_by, payments))
+    yield from ((reason, end, field) for field, reason in trailer_faults(t, len(payments), total))
+    if letter != "C" and is_digits(held(h, 9)):
+        yield first((int(held(h, 9)) != total, 14)), head, 9
+
+
+def split(total):
+    return [total // 10**10, total % 10**10]
+
+
+def batch_row(batch, book, earlier):
+    """`earlier` are the headers of the earlier batches."""
+    repeats = held(batch[0][1], 6) in [held(h, 6) for h in earlier]
+    wrong = [f for f in faults(batch, book, repeats) if f[0]]
+    payments = payments_of(batch)
+    return [batch[0][0], len(batch), len(payments), *split(sum(map(paid_by, payments))), *(wrong or [(0, 0, 0)])[0]]
+
+
+# ---- the judge of a file (01 File answers)
+
+def is_low(rec):
+    fillers = FILLERS[code_of(rec)]
+    return any(x < 0x40 for i, x in enumerate(rec, 1) if not any(start <= i <= end for start, end in fillers))
+
+
+def reasons(file, book, room):
+    """Each reason that applies, in document 01's order, with the record that it names. Only the first counts: the tests after it may
+    have nothing to look at, and are not made."""
+    if len(file) == 0:
+        yield 1, 0
+    if len(file) % 850:
+        yield 2, 0
+    if len(file) > 65535 * 850:
+        yield 3, 0
+    lists = parsed(book)
+    if lists is None:
+        yield 4, 0
+    records = [file[i:i + 850] for i in range(0, len(file), 850)]
+    fault = nesting_fault(records)
+    if fault:
+        yield 5, fault
+    if room < 64 * (1 + sum(map(is_header, records))):
+        yield 6, 0
+    low = [n for n, rec in enumerate(records, 1) if is_low(rec)]
+    if low:
+        yield 7, low[0]
+    header, trailer, last = records[0], records[-1], len(records)
+    if blank(held(header, 2)) or held(header, 2) not in lists[1]:
+        yield 8, 1
+    if held(header, 3) != "201":
+        yield 9, 1
+    if not all(is_digits(held(trailer, field)) for field in (103, 104, 105)):
+        yield 10, last
+    details = [r for r in records if is_detail(r)]
+    if cents(held(trailer, 103)) != len(records):
+        yield 11, last
+    if cents(held(trailer, 104)) != len(details):
+        yield 12, last
+    if cents(held(trailer, 105)) != sum(cents(held(d, 24)) for d in details):
+        yield 13, last
+
+
+def judged(file, book, room):
+    """The answer, and the rows of an accepted file."""
+    reason, record = next(reasons(file, book, room), (0, 0))
+    if reason:
+        return reason * 100000 + record, []
+    numbered = [(i // 850 + 1, file[i:i + 850]) for i in range(0, len(file), 850)]
+    batches = parts(numbered[:-1], lambda one: is_header(one[1]))
+    details = [r for _, r in numbered if is_detail(r)]
+    head = [0, 0, len(numbered), len(details), *split(sum(cents(held(d, 24)) for d in details)), len(batches), 0]
+    headers = [b[0][1] for b in batches]
+    return 0, [head] + [batch_row(b, parsed(book), headers[:i]) for i, b in enumerate(batches)]
+
+
+# ---- sound records, and files of them
+
+SYMBOL, SERIAL = "1234", "12340000"
+IDENT = SYMBOL + SERIAL
+LOCATIONS = {"00001234": 1, "00005678": 0}  # 1: a CARS Reporter
+BETCS = {"COLL": 1, "DISB": 0}  # 1: a credit
+SYSTEMS = ["LEDGER", "PAYROLL"]
+
+
+def section(kind, entries):
+    body = b"".join(sorted(entries))
+    return (2 + len(body)).to_bytes(4, "little") + kind.to_bytes(2, "little") + body
+
+
+def coded(codes, width):
+    return [ebcdic(code.ljust(width)) for code in codes]
+
+
+def flagged(codes):
+    return [ebcdic(code.ljust(8)) + bytes([flag]) for code, flag in codes.items()]
+
+
+SECTIONS = [
+    section(1, coded(SYSTEMS, 40)), section(2, flagged(LOCATIONS)), section(3, flagged(BETCS)), section(4, coded(["Grant", "Vendor"], 25)),
+    section(5, coded(["CA", "NY"], 2)), section(6, coded(["CA", "US"], 2)), section(7, coded(["CAD", "USD"], 3))]
+BOOK = b"".join(SECTIONS)
+STARTS = [sum(map(len, SECTIONS[:k])) for k in range(8)]  # where each section starts, and the book's end
+
+
+def record(code, **fields):
+    rec = bytearray(ebcdic(code.ljust(850)))
+    for name, value in fields.items():
+        start, end = PLACES[int(name[1:])]
+        rec[start - 1:end] = ebcdic(value.ljust(end - start + 1))
+    return bytes(rec)
+
+
+def amount(n):
+    return "%020d" % n
+
+
+NINES = 10**20 - 1  # the greatest amount
+
+
+HEADERS = {
+    "N": dict(f13="061000146"), "W": dict(f12="021030004"), "I": {}, "A": {},
+    "C": dict(f15="1234", f16="0", f17="20240229", f18=SYMBOL, f19=SERIAL, f20="0224"),
+}
+VOUCHER = dict(f7="000123", f8="2024-02-29", f10="5515", f14="00005678")
+DETAILS = {
+    "N": dict(f43="071000013", f48="22", f62="CCD"), "W": dict(f42="800000001", f44="CTR"), "I": dict(f51="Electronic"),
+    "A": dict(f54="2024-0001", f55="PAID-BEFORE", f56="2000-02-29"), "C": dict(f25="0", f29="00005678", f58=SERIAL, f59="20240229"),
+}
+EVERY = dict(f24=amount(100), f26="Ann Example", f28="Vendor", f35="CA", f36="90210", f38="US", f52="USD")
+ACCOUNT = dict(f77=IDENT, f80="020", f84="1234", f85="000", f86="DISB", f88="0")
+
+
+def templates(letter):
+    """Header, detail, DX, a payment's first DT, its others, its first DP, its others, BT: of a payment of 100 cents."""
+    return [
+        record("B" + letter, f6=IDENT, f9=amount(0), **HEADERS[letter], **({} if letter == "C" else VOUCHER)),
+        record("D" + letter, f23=IDENT, **EVERY, **DETAILS[letter]),
+        record("DX", f65=IDENT, f66="Ann Example"),
+        record("DT", **ACCOUNT, f87=amount(100)), record("DT", **ACCOUNT, f87=amount(0)),
+        record("DP", f91=IDENT, f96=amount(100)), record("DP", f91=IDENT, f96=amount(0)),
+        record("BT", f99="0" * 8, f100=amount(0)),
+    ]
+
+
+ENDS = [record("FH", f2="PAYROLL", f3="201"), record("FT", f103="0" * 18, f104="0" * 18, f105=amount(0))]
+TEMPLATES = {letter: templates(letter) for letter in LETTERS}
+
+
+def written(rec, *values):
+    """The record with digits that end at positions."""
+    rec = bytearray(rec)
+    for last, digits in values:
+        rec[last - len(digits):last] = ebcdic(digits)
+    return rec
+
+
+def repeated(one, other, count):
+    return ([one] + [other] * (count - 1)) * (count > 0)
+
+
+def whole(batches):
+    """FH, sound batches, FT. Batches and payments are numbered from 0; each payment is of 100 cents."""
+    records = [bytearray(ENDS[0])]
+    for b, (letter, payments, parties, accounts, procurements) in enumerate(batches):
+        head, detail, dx, dt, dts, dp, dps, end = TEMPLATES[letter]
+        records.append(written(head, (12, "%02d" % b), (108, "%02d" % b), (50, "%04d" % payments)))
+        for n in range(payments):
+            one = [detail] + [dx] * parties + repeated(dt, dts, accounts) + repeated(dp, dps, procurements)
+            records += [written(rec, (14, "%02d%02d" % (b, n)), (661, "%02d%02d" % (b, n))) for rec in one]
+        records.append(written(end, (10, "%04d" % payments), (28, "%04d" % payments)))
+    payments = sum(b[1] for b in batches)
+    return records + [written(ENDS[1], (20, "%04d" % (len(records) + 1)), (38, "%04d" % payments), (56, "%04d" % payments))]
+
+
+# ---- the table: a case is a label, batches, changes, and what the judge is lent
+
+table, says = [], []
+answers, pairs = collections.Counter(), collections.Counter()
+
+# a batch: its letter, its payments, and the DX, DT and DP of each
+N, C, W, I, A = [(letter, 1, 1, 0, 0) for letter in LETTERS]
+# the records of a file with one batch of one payment and one DX
+FH, HEAD, DETAIL, DX, BT, FT = range(1, 7)
+
+
+def at(rec, start, end, data):
+    return "at", rec, start, end, data
+
+
+def put(rec, field, value):
+    """The field of the record holds the value. Where blanks fill most of it, they are written first."""
+    start, end = PLACES[field]
+    width, data = end - start + 1, ebcdic(value)
+    assert len(data) <= width, (field, value)
+    if not data or len(data) < width - 8:
+        return [at(rec, start, end, b"\x40")] + [at(rec, start, start + len(data) - 1, data)] * (len(data) > 0)
+    data = data.ljust(width, b"\x40")
+    return [at(rec, start, end, data[:1] if len(set(data)) == 1 else data)]
+
+
+def money(rec, field, n):
+    """The field of the record, which holds less than 10^6, holds n."""
+    return ("digits", rec, PLACES[field][1], "%06d" % n) if n != NINES else put(rec, field, str(n))
+
+
+def code(start, data, count=None):
+    """So many of the book's bytes from `start`, counted from 0."""
+    return "code", start + 1, start + (count or len(data)), data
+
+
+def fill(space, start, end, data):
+    for i in range(start - 1, end):
+        space[i] = data[(i - start + 1) % len(data)]
+
+
+def lent(batches, changes, file, book):
+    """The bytes of the file and of the book, after the changes."""
+    records, codes = whole(batches), bytearray(BOOK.ljust(512, b"\0"))
+    for kind, *rest in changes:
+        if kind == "at":
+            rec, start, end, data = rest
+            fill(records[rec - 1], start, end, data)
+        elif kind == "digits":
+            rec, last, digits = rest
+            records[rec - 1] = written(records[rec - 1], (last, digits))
+        else:
+            fill(codes, *rest)
+    bytes_of_file = b"".join(map(bytes, records))
+    return bytes_of_file[:len(bytes_of_file) if file is None else file], bytes(codes[:len(BOOK) if book is None else book])
+
+
+def words(batches, changes, lengths):
+    for letter, *counts in batches:
+        yield "B" + letter
+        yield from counts
+    for change in changes:
+        yield from change
+    for name, length in lengths.items():
+        if length is not None:
+            yield name
+            yield length
+
+
+def flat(changes):
+    """Changes may come in lists."""
+    for one in changes:
+        yield from flat(one) if isinstance(one, list) else [one]
+
+
+def add(label, batches, *changes, expect, file=None, book=None, report=None):
+    """A case, with what the judge has to answer: the number of a refusal; for an accepted file the reason, the record and the field
+    of each batch that is not sound, by the batch's number from 1; None: whatever the judge above says."""
+    changes = list(flat(changes))
+    room = 64 * (1 + len(batches)) if report is None else report
+    bytes_of_file, codes = lent(batches, changes, file, book)
+    answer, rows = judged(bytes_of_file, codes, room)
+    found = answer or {n: tuple(row[5:]) for n, row in enumerate(rows) if n and row[5]}
+    assert expect is None or found == expect, (label, found, expect)
+    assert len(label) < LABEL and room <= REPORT and (answer or len(rows) == 1 + len(batches)), label
+    answers[answer // 100000] += 1
+    pairs.update((row[5], row[7]) for row in rows[1:] if row[5])
+    text = [w.hex().upper() if isinstance(w, bytes) else str(w) for w in words(batches, changes, dict(file=file, book=book, report=report))]
+    table.append(label.ljust(LABEL) + " ".join(text))
+    shown = [str(answer)] + [" ".join(map(str, row)) for row in rows] + ["kept"]
+    says.append(label.ljust(LABEL) + " / ".join(shown))
+
+
+def fault(reason, rec, field, batch=1):
+    return {batch: (reason, rec, field)}
+
+
+SOUND = {}
+
+
+def numbers(batches):
+    """The record numbers of each batch: its header, its payments (each a list, the detail first), its BT."""
+    n, found = 2, []
+    for _, payments, parties, accounts, procurements in batches:
+        size = 1 + parties + accounts + procurements
+        starts = [n + 1 + k * size for k in range(payments)]
+        found.append((n, [list(range(s, s + size)) for s in starts], n + 1 + payments * size))
+        n = found[-1][2] + 1
+    return found
+
+
+def last_of(batches):
+    return numbers(batches)[-1][2] + 1
+
+
+def paid(batches, amounts):
+    """The payments have these amounts, by batch and payment from 0, and all that sums them has the sums that fit."""
+    changes, total = [], 0
+    for b, (letter, payments, parties, accounts, procurements) in enumerate(batches):
+        head, places, end = numbers(batches)[b]
+        own = [amounts.get((b, p), 100) for p in range(payments)]
+        total += sum(own)
+        for place, n in zip(places, own):
+            if n != 100:
+                changes.append(money(place[0], 24, n))
+                changes += [money(rec, 87, n) for rec in place[1 + parties:][:min(accounts, 1)]]
+                changes += [money(rec, 96, n) for rec in place[1 + parties + accounts:][:min(procurements, 1)]]
+        if sum(own) < 10**20 and sum(own) != 100 * payments:
+            changes += [money(head, 9, sum(own))] * (letter != "C") + [money(end, 100, sum(own))]
+    return changes + [money(last_of(batches), 105, total)] * (total < 10**20)
+
+
+def named(value, *records):
+    """The Payment ID of these records."""
+    return [put(rec, 23, value) for rec in records]
+
+
+def coded_as(rec, value):
+    return at(rec, 1, 2, ebcdic(value))
+
+
+# 01 Worked examples: the program's own
+EXAMPLE = paid([N], {(0, 0): 12345})
+add("one sound payment of 12345 cents", [N], EXAMPLE, expect=SOUND)
+assert says[-1][LABEL:] == "0 / 0 0 6 1 0 12345 1 0 / 2 4 1 0 12345 0 0 0 / kept"
+add("the same with the DX changed to BT", [N], EXAMPLE, coded_as(DX, "BT"), expect=500004)
+for letter in LETTERS:
+    add("sound " + letter, [(letter, 1, 1, 1, 1)], expect=SOUND)
+    add("sound %s, of a CARS Reporter" % letter, [(letter, 1, 1, 1, 1)], put(DETAIL if letter == "C" else HEAD, 29 if letter == "C" else 14, "00001234"), expect=SOUND)
+add("four kinds of batch", [N, W, I, A], expect=SOUND)
+add("three check batches", [C, ("C", 3, 1, 1, 1), C], expect=SOUND)
+add("fourteen batches", [N, W, I, A, N, W, I, A, N, W, I, A, N, W], expect=SOUND)
+add("30 payments", [("I", 30, 2, 1, 1)], expect=SOUND)
+
+# 01 Worked examples: routing numbers
+for field, letter, rec in [(43, "N", DETAIL), (13, "N", HEAD), (42, "W", DETAIL), (12, "W", HEAD)]:
+    for value in ["210000000", "720000000", "000000000"]:
+        add("%d holds %s" % (field, value), [(letter, 1, 1, 0, 0)], put(rec, field, value), expect=SOUND)
+    for value in ["200000000", "330000000"]:
+        add("%d holds %s" % (field, value), [(letter, 1, 1, 0, 0)], put(rec, field, value), expect=fault(3, rec, field))
+
+# 01 Date
+for day, answer in [("2024-02-29", SOUND), ("2000-02-29", SOUND), ("1900-02-29", fault(5, HEAD, 8)), ("2200-02-29", fault(5, HEAD, 8))]:
+    add("8 holds " + day, [I], put(HEAD, 8, day), expect=answer)
+
+# 01 Worked examples: nesting
+for letter in "NC":
+    for accounts, procurements, answer in [(100, 0, SOUND), (101, 0, 500105), (0, 100, SOUND), (0, 101, 500105), (100, 100, SOUND), (100, 101, 500205)]:
+        add("%d DT and %d DP, %s" % (accounts, procurements, letter), [(letter, 1, 1, accounts, procurements)], expect=answer)
+add("100 DT in each of two payments", [("W", 2, 1, 100, 0)], expect=SOUND)
+add("101 DT in the second batch", [N, ("W", 1, 1, 101, 0)], expect=500109)
+add("100 DX", [("A", 1, 100, 0, 0)], expect=SOUND)
+add("101 DX", [("A", 1, 101, 0, 0)], expect=SOUND)
+for letter in VOUCHERS:
+    add("BC after a B%s batch" % letter, [(letter, 1, 1, 0, 0), C], expect=500006)
+    add("B%s after a BC batch" % letter, [C, (letter, 1, 1, 0, 0)], expect=500006)
+add("BC after two other batches", [N, W, C], expect=500010)
+for records in range(1, 6):
+    add("the first %d of six records" % records, [N], file=850 * records, expect=500000 + records + 1)
+add("FH FT", [], expect=500002)
+add("FH BN BT", [("N", 0, 0, 0, 0)], expect=500003)
+add("no FH", [N], coded_as(FH, "FX"), expect=500001)
+add("a second FH", [N], coded_as(HEAD, "FH"), expect=500002)
+add("a detail of another letter", [N], coded_as(DETAIL, "DW"), expect=500003)
+add("a detail without DX", [("N", 1, 0, 0, 0)], expect=500004)
+add("DT before DX", [("N", 1, 1, 1, 0)], coded_as(4, "DT"), coded_as(5, "DX"), expect=500004)
+add("DX after DT", [("N", 1, 2, 1, 0)], coded_as(5, "DT"), coded_as(6, "DX"), expect=500006)
+add("DP before DT", [("N", 1, 1, 1, 1)], coded_as(5, "DP"), coded_as(6, "DT"), expect=500006)
+add("a batch without BT", [N, W], coded_as(BT, "BW"), expect=500005)
+add("two BT", [("N", 2, 1, 0, 0)], coded_as(5, "BT"), coded_as(6, "BT"), expect=500006)
+add("FT before BT", [N], coded_as(BT, "FT"), expect=500005)
+add("BT in place of FT", [N], coded_as(FT, "BT"), expect=500006)
+add("a record after FT", [("N", 2, 1, 0, 0)], coded_as(5, "BT"), coded_as(6, "FT"), expect=500007)
+add("FT after FT", [("N", 2, 1, 0, 0)], coded_as(5, "BT"), coded_as(6, "FT"), coded_as(7, "FT"), expect=500007)
+add("a code in small letters", [N], coded_as(DX, "dx"), expect=500004)
+add("a code of blanks", [N], coded_as(DX, "  "), expect=500004)
+add("a header of no kind", [N], coded_as(HEAD, "BX"), expect=500002)
+for rec, name in [(4, "DX"), (5, "DT"), (6, "DP")]:
+    add(name + " with another Payment ID", [("N", 1, 1, 1, 1)], named("OTHER", rec), expect=500000 + rec)
+    add(name + " with a blank Payment ID", [("C", 1, 1, 1, 1)], named("", rec), expect=500000 + rec)
+    add(name + " whose ID differs in its last byte", [("W", 1, 1, 1, 1)], at(rec, 22, 22, b"\x41"), expect=500000 + rec)
+add("a DX with the earlier payment's ID", [("N", 2, 1, 0, 0)], named(IDENT, 6), expect=500006)
+add("blank Payment IDs nest", [N], named("", DETAIL, DX), expect=fault(1, DETAIL, 23))
+add("the first of two faults", [N, W], coded_as(8, "BT"), coded_as(4, "BT"), expect=500004)
+
+# 01 Worked examples: 849, 850 and 851 bytes
+for size, answer in [(0, 100000), (1, 200000), (849, 200000), (850, 500002), (851, 200000), (1699, 200000), (1700, 500003), (5099, 200000), (5100, SOUND)]:
+    add("%d bytes" % size, [N], file=size, expect=answer)
+add("850 bytes that are no FH", [N], coded_as(FH, "FT"), file=850, expect=500001)
+
+# 01 Code book
+EMPTY = b"".join(section(kind, []) for kind in range(1, 8))
+for size in [0, 1, 3, 4, 5]:
+    add("a book of %d bytes" % size, [N], book=size, expect=400000)
+for k in range(7):
+    start, end, width = STARTS[k], STARTS[k + 1], KINDS[k][1] + KINDS[k][2]
+    name = "book, section %d: " % (k + 1)
+    add(name + "left out, and those after it", [N], book=start, expect=400000)
+    add(name + "its length cut", [N], book=start + 3, expect=400000)
+    add(name + "its kind cut", [N], book=start + 5, expect=400000)
+    add(name + "a byte short", [N], book=end - 1, expect=400000)
+    length = end - start - 4
+    add(name + "a length too small by one", [N], code(start, bytes([length - 1])), expect=400000)
+    add(name + "a length too large by one", [N], code(start, bytes([length + 1])), expect=400000)
+    add(name + "a length of 0", [N], code(start, b"\0"), expect=400000)
+    add(name + "a length of 1", [N], code(start, b"\1"), expect=400000)
+    add(name + "a length past 16,777,216", [N], code(start + 3, b"\1"), expect=400000)
+    add(name + "the next kind", [N], code(start + 4, bytes([k + 2])), expect=400000)
+    add(name + "a kind past 256", [N], code(start + 5, b"\1"), expect=400000)
+    codes = SECTIONS[k][6:]
+    add(name + "equal codes", [N], code(start + 6, codes[width:width + KINDS[k][1]]), expect=400000)
+    add(name + "codes that fall", [N], code(start + 6, codes[width:] + codes[:width]), expect=400000)
+    if KINDS[k][2]:
+        add(name + "a flag of 2", [N], code(start + 6 + width - 1, b"\2"), expect=400000)
+        add(name + "a last flag of 2", [N], code(end - 1, b"\2"), expect=400000)
+        add(name + "a flag of hex F1", [N], code(end - 1, b"\xF1"), expect=400000)
+        add(name + "both flags 1", [("N", 1, 1, 1, 0)], code(start + 6 + width - 1, b"\1"), code(end - 1, b"\1"), expect=SOUND)
+add("book, two sections in the other order", [N], code(STARTS[4], SECTIONS[5] + SECTIONS[4]), expect=400000)
+add("book, a section twice", [N], code(STARTS[5], SECTIONS[4]), expect=400000)
+add("book, a byte after its end", [N], book=len(BOOK) + 1, expect=400000)
+add("book, an eighth section", [N], code(len(BOOK), section(8, [])), book=len(BOOK) + 6, expect=400000)
+add("book, seven empty sections: no InputSystem", [N], code(0, EMPTY), book=42, expect=800001)
+add("book, seven empty sections, one cut", [N], code(0, EMPTY), book=41, expect=400000)
+add("book, seven empty sections and a byte", [N], code(0, EMPTY), book=43, expect=400000)
+lone = section(1, coded(["PAYROLL"], 40)) + EMPTY[6:]
+add("book, a lone InputSystem: no location", [N], code(0, lone), book=len(lone), expect=fault(4, HEAD, 14))
+add("book, codes below hex 40", [N], code(6, b"\0", 40), expect=SOUND)
+add("book, an InputSystem less", [N], code(6 + 40, b"\xFF", 40), expect=800001)
+
+# 01 File answers, 6, and 01 Report
+for room, answer in [(0, 600000), (1, 600000), (64, 600000), (127, 600000), (128, SOUND), (129, SOUND), (200, SOUND), (1024, SOUND)]:
+    add("a report of %d bytes" % room, [N], EXAMPLE, report=room, expect=answer)
+for room, answer in [(255, 600000), (256, SOUND), (257, SOUND)]:
+    add("a report of %d bytes, three batches" % room, [N, W, I], report=room, expect=answer)
+rejected = put(6, 7, "")
+for room, answer in [(191, 600000), (192, fault(1, 6, 7, 2)), (193, fault(1, 6, 7, 2))]:
+    add("a report of %d bytes, one of two rejected" % room, [N, W], rejected, report=room, expect=answer)
+
+# 01 File answers, 7: a byte below 40, by record
+FULL = [("N", 1, 1, 1, 1)]
+KIND = ["FH", "BN", "DN", "DX", "DT", "DP", "BT", "FT"]
+for rec, name in enumerate(KIND, 1):
+    for start, end in FILLERS[name]:
+        add("3F before the filler %d-%d of %s" % (start, end, name), FULL, at(rec, start - 1, start - 1, b"\x3F"), expect=700000 + rec)
+        add("3F and 00 in the filler %d-%d of %s" % (start, end, name), FULL, at(rec, start, end, b"\x3F\0"), expect=SOUND)
+        if end < 850:
+            add("3F after the filler %d-%d of %s" % (start, end, name), FULL, at(rec, end + 1, end + 1, b"\x3F"), expect=700000 + rec)
+for rec, found in [(2, SOUND), (3, fault(3, 3, 62)), (4, SOUND), (5, SOUND), (6, fault(2, 6, 96)), (7, fault(2, 7, 100))]:
+    last = FILLERS[KIND[rec - 1]][-1][0] - 1
+    add("40 before the filler of " + KIND[rec - 1], FULL, at(rec, last, last, b"\x40"), expect=found)
+for rec, start, name in [(2, 103, "a check's field of BN"), (3, 654, "a check's field of DN"), (3, 140, "an address line"), (4, 174, "a first name"),
+                         (5, 23, "a sub-level prefix"), (6, 23, "a procurement's number"), (5, 75, "field 88")]:
+    add("3F in " + name, FULL, at(rec, start, start, b"\x3F"), expect=700000 + rec)
+add("FF in the text fields of DN", FULL, at(3, 44, 106, b"\xFF"), at(3, 140, 349, b"\xFF"), expect=SOUND)
+add("00 in two records: the first", [N, W], at(9, 100, 100, b"\0"), at(4, 200, 200, b"\0"), expect=700004)
+add("3F in the first and the last record", [N], at(FH, 3, 3, b"\x3F"), at(FT, 3, 3, b"\x3F"), expect=700001)
+add("3F in fillers, then in a field", FULL, at(1, 46, 850, b"\x3F"), at(4, 351, 850, b"\x3F"), at(6, 150, 151, b"\x3F"), expect=700006)
+add("a low byte in an ID that nests: 7", [N], at(DETAIL, 22, 22, b"\0"), at(DX, 22, 22, b"\0"), expect=700003)
+add("a low byte in one ID of two: 5", [N], at(DX, 22, 22, b"\0"), expect=500004)
+add("a low byte in a record code: 5", [N], at(DX, 2, 2, b"\x3F"), expect=500004)
+
+# 01 Slips: the 3F rule applied to ASCII
+add("EBCDIC digits F0 to F9 are accepted", [N], paid([N], {(0, 0): 1234567890}), expect=SOUND)
+add("an amount in ASCII digits", [N], at(DETAIL, 23, 42, b"0" * 17 + b"100"), expect=700003)
+add("a blank in ASCII", [N], at(DETAIL, 60, 60, b" "), expect=700003)
+add("FH in ASCII", [N], at(FH, 1, 2, b"FH"), expect=500001)
+add("the version in ASCII", [N], at(FH, 43, 45, b"201"), expect=700001)
+
+# 01 File answers, 8 and 9
+for value in ["", "PAYROL", "PAYROLLS", "payroll", " PAYROLL", "PAYROLL" + " " * 32 + "X"]:
+    add("InputSystem " + (" ".join(value.split()) or "blank") + (" behind a blank" if value[:1] == " " else ""), [N], put(FH, 2, value), expect=800001)
+add("InputSystem LEDGER, the book's first", [N], put(FH, 2, "LEDGER"), expect=SOUND)
+add("InputSystem blank, and the book lists a blank", [N], put(FH, 2, ""), code(6, b"\x40", 40), expect=800001)
+add("the book lists a blank, InputSystem filled", [N], code(6, b"\x40", 40), expect=SOUND)
+add("an InputSystem of 40 bytes", [N], put(FH, 2, "Z" * 40), code(6 + 40, b"\xE9", 40), expect=SOUND)
+for value in ["200", "202", "", "20", "2.0", "101", " 20"]:
+    add("version %s" % (value and "'%s'" % value or "blank"), [N], put(FH, 3, value), expect=900001)
+
+# 01 File answers, 10 to 13
+NAMES = {103: "TotalCount_Records", 104: "TotalCount", 105: "TotalAmount"}
+for field, name in NAMES.items():
+    start, end = PLACES[field]
+    add(name + " blank", [N], put(FT, field, ""), expect=1000006)
+    add(name + " with a leading blank", [N], at(FT, start, start, b"\x40"), expect=1000006)
+    add(name + " with a last letter", [N], at(FT, end, end, b"\xC1"), expect=1000006)
+    for byte in (0x40, 0x60, 0xEF, 0xFA, 0xFF):
+        add("%s ends in hex %02X" % (name, byte), [N], at(FT, end, end, bytes([byte])), expect=1000006)
+BOTH = [N, ("W", 2, 1, 1, 0)]
+last = last_of(BOTH)
+for field, right, reason in [(103, last, 11), (104, 3, 12), (105, 300, 13)]:
+    for wrong in [right - 1, right + 1, 0]:
+        add("%s %d, not %d" % (NAMES[field], wrong, right), BOTH, money(last, field, wrong), expect=reason * 100000 + last)
+    start, end = PLACES[field]
+    add(NAMES[field] + " all nines", BOTH, at(last, start, end, b"\xF9"), expect=reason * 100000 + last)
+    add(NAMES[field] + " with a leading 1", BOTH, at(last, start, start, b"\xF1"), expect=reason * 100000 + last)
+add("TotalCount_Records wraps 2^16", [N], money(FT, 103, 65536 + 6), expect=1100006)
+add("TotalCount wraps 2^16", [N], money(FT, 104, 65536 + 1), expect=1200006)
+add("TotalCount_Records wraps 2^32", [N], money(FT, 103, 2**32 + 6), expect=1100006)
+add("TotalAmount wraps 2^64", [N], money(FT, 105, 2**64 + 100), expect=1300006)
+
+# 01 File answers: two at once, and all from one on: the lower number is answered
+WRONG = {  # by reason: changes, and what is lent
+    4: ([], dict(book=len(BOOK) - 1)), 5: ([coded_as(DX, "BT")], {}), 6: ([], dict(report=127)), 7: ([at(BT, 3, 3, b"\0")], {}),
+    8: ([put(FH, 2, "LEDGERS")], {}), 9: ([put(FH, 3, "200")], {}), 10: ([at(FT, 39, 39, b"\x40")], {}), 11: ([money(FT, 103, 7)], {}),
+    12: ([money(FT, 104, 2)], {}), 13: ([money(FT, 105, 101)], {}),
+}
+NAMED = {4: 0, 5: 4, 6: 0, 7: 5, 8: 1, 9: 1, 10: 6, 11: 6, 12: 6, 13: 6}
+
+
+def at_once(label, *chosen):
+    lengths = {k: v for reason in chosen for k, v in WRONG[reason][1].items()}
+    add(label, [N], *[WRONG[reason][0] for reason in chosen], **lengths, expect=chosen[0] * 100000 + NAMED[chosen[0]])
+
+
+for one in WRONG:
+    at_once("%d alone" % one, one)
+    for other in WRONG:
+        if one < other:
+            at_once("both %d and %d" % (one, other), one, other)
+    if one < 13:
+        at_once("all from %d to 13" % one, *range(one, 14))
+add("both 1 and 4", [N], file=0, book=0, expect=100000)
+add("both 1 and 6", [N], file=0, report=0, expect=100000)
+add("both 2 and 4", [N], file=851, book=0, expect=200000)
+add("both 2 and 5", [N], WRONG[5][0], file=5099, expect=200000)
+add("both 2 and 6", [N], file=5099, report=0, expect=200000)
+add("both 5, at the end, and 6", [N], file=4250, report=0, expect=500006)
+add("both 10 in TotalCount_Records and 12", [N], put(FT, 103, ""), money(FT, 104, 2), expect=1000006)
+add("a refusal, and a rejected batch", [N], put(HEAD, 7, ""), money(FT, 105, 101), expect=1300006)
+
+# 01 Slips: adding twenty-digit amounts in 64 bits
+TWO = [("W", 2, 1, 0, 0)]
+add("twenty nines", [W], paid([W], {(0, 0): NINES}), expect=SOUND)
+add("ten nines and 1: a carry into the other number", TWO, paid(TWO, {(0, 0): 9999999999, (0, 1): 1}), expect=SOUND)
+add("two of 2^63: their sum is 2^64", TWO, paid(TWO, {(0, 0): 2**63, (0, 1): 2**63}), expect=SOUND)
+add("the same, and an FT that wraps", TWO, paid(TWO, {(0, 0): 2**63, (0, 1): 2**63}), at(8, 39, 58, b"\xF0"), expect=1300008)
+add("2^64 and 100 in two batches", [N, W], paid([N, W], {(0, 0): 2**64}), expect=SOUND)
+add("2^64 and 100, an FT of 100", [N, W], paid([N, W], {(0, 0): 2**64}), at(10, 39, 58, ebcdic(amount(100))), expect=1300010)
+add("the most that FT can hold, in two batches", [N, W], paid([N, W], {(0, 0): 5 * 10**19, (1, 0): 5 * 10**19 - 1}), expect=SOUND)
+add("10^20 in two batches: FT holds no such sum", [N, W], paid([N, W], {(0, 0): 5 * 10**19, (1, 0): 5 * 10**19}), expect=1300010)
+add("10^20, an FT of zeros", [N, W], paid([N, W], {(0, 0): 5 * 10**19, (1, 0): 5 * 10**19}), at(10, 39, 58, b"\xF0"), expect=1300010)
+add("10^20, an FT of nines", [N, W], paid([N, W], {(0, 0): 5 * 10**19, (1, 0): 5 * 10**19}), at(10, 39, 58, b"\xF9"), expect=1300010)
+add("twenty nines and 1 in a batch", TWO, paid(TWO, {(0, 0): NINES, (0, 1): 1}), expect=1300008)
+add("twenty nines and 1, an FT of zeros", TWO, paid(TWO, {(0, 0): NINES, (0, 1): 1}), at(8, 39, 58, b"\xF0"), expect=1300008)
+add("ten of twenty nines", [("A", 10, 1, 0, 0)], paid([("A", 10, 1, 0, 0)], {(0, p): NINES for p in range(10)}), at(24, 39, 58, ebcdic(amount(10**20 - 10))), expect=1300024)
+add("an amount of no digits counts as zero", TWO, put(3, 24, "100"), money(7, 100, 100), money(2, 9, 100), money(8, 105, 100), expect=fault(2, 3, 24))
+add("the same, and an FT that counts it", TWO, put(3, 24, "100"), money(7, 100, 100), money(2, 9, 100), expect=1300008)
+
+# 01 Slips: a lone credit, field 88
+CREDIT = "COLL"
+ONE_DT, TWO_DT = [("N", 1, 1, 1, 0)], [("N", 1, 1, 2, 0)]
+add("a lone credit is positive", ONE_DT, put(5, 86, CREDIT), expect=SOUND)
+add("a lone credit of 99 does not balance", ONE_DT, put(5, 86, CREDIT), money(5, 87, 99), expect=fault(9, 3, 87))
+add("two credits of 50 do not balance", TWO_DT, [c for n in (5, 6) for c in (put(n, 86, CREDIT), money(n, 87, 50))], expect=fault(9, 3, 87))
+add("debit 130 and credit 30 balance", TWO_DT, money(5, 87, 130), money(6, 87, 30), put(6, 86, CREDIT), expect=SOUND)
+for value in "0", "1", "", "X":
+    add("field 88 %s on debits" % (value or "blank"), TWO_DT, money(5, 87, 60), money(6, 87, 40), put(5, 88, value), put(6, 88, value), expect=SOUND)
+    add("field 88 %s on a credit" % (value or "blank"), TWO_DT, money(5, 87, 130), money(6, 87, 30), put(6, 86, CREDIT), put(6, 88, value), expect=SOUND)
+add("field 88 is 1 on a debit that would be a credit", TWO_DT, money(5, 87, 130), money(6, 87, 30), put(6, 88, "1"), expect=fault(9, 3, 87))
+
+# other sums and counts of a batch
+add("a procurement sum that differs", [("I", 1, 1, 0, 2)], money(6, 96, 1), expect=fault(10, 3, 96))
+add("a lone blank DP", [("I", 1, 1, 0, 1)], put(5, 96, ""), expect=SOUND)
+add("a CARS Reporter without DT", [N], put(2, 14, "00001234"), expect=fault(11, 3, 76))
+add("a check of a CARS Reporter without DT", [C], put(3, 29, "00001234"), expect=fault(11, 3, 76))
+add("BT's count differs", [A], money(5, 99, 2), expect=fault(13, 5, 99))
+add("BT's amount differs", [A], money(5, 100, 99), expect=fault(14, 5, 100))
+add("field 9's sum differs", [A], money(2, 9, 99), expect=fault(14, 2, 9))
+add("1000 DT in a batch", [("W", 10, 1, 100, 0)], expect=SOUND)
+add("1001 DT in a batch", [("W", 11, 1, 91, 0)], expect=fault(12, 2, 76))
+add("1001 DT in the second batch", [N, ("I", 11, 1, 91, 0)], expect=fault(12, 6, 76, 2))
+add("1001 DT in two batches", [("N", 6, 1, 91, 0), ("W", 5, 1, 91, 0)], expect=SOUND)
+add("a check's ID that is not its symbol and serial", [C], named("X", 3, 4), expect=fault(7, 3, 23))
+add("a check's serial that is not the next", [C], put(3, 58, "12340001"), named(SYMBOL + "12340001", 3, 4), expect=fault(7, 3, 58))
+add("a schedule number that is not the first check's", [C], put(2, 6, SYMBOL + "12340001"), expect=fault(7, 2, 6))
+add("a symbol below its range", [C], put(2, 18, "0999"), put(2, 6, "0999" + SERIAL), named("0999" + SERIAL, 3, 4), expect=fault(8, 2, 18))
+
+# 01 Slips: rejected batches count in the file's totals and keep their place
+THREE = [N, ("W", 2, 1, 0, 0), I]
+middle = [put(6, 7, "")]
+end = last_of(THREE)
+add("three batches, the middle one rejected", THREE, middle, expect=fault(1, 6, 7, 2))
+add("three batches, the first rejected", THREE, put(2, 7, ""), expect=fault(1, 2, 7, 1))
+add("three batches, the last rejected", THREE, put(12, 7, ""), expect=fault(1, 12, 7, 3))
+add("three batches, all rejected", THREE, put(2, 7, ""), middle, put(14, 66, ""), expect={1: (1, 2, 7), 2: (1, 6, 7), 3: (1, 14, 66)})
+for name, rec, field in [("its schedule number", 6, 6), ("its date", 6, 8), ("its field 9", 6, 9), ("its location", 6, 14), ("a payee", 7, 26),
+                         ("a payment type", 9, 28), ("a party's name", 10, 66), ("its count", 11, 99), ("its amount", 11, 100)]:
+    add("the middle one: %s blank" % name, THREE, put(rec, field, ""), expect=fault(1, rec, field, 2))
+add("the middle one left out of FT's records", THREE, middle, money(end, 103, end - 6), expect=1100000 + end)
+add("the middle one left out of FT's count", THREE, middle, money(end, 104, 2), expect=1200000 + end)
+add("the middle one left out of FT's amount", THREE, middle, money(end, 105, 200), expect=1300000 + end)
+add("the middle one left out of FT's numbers", THREE, middle, money(end, 103, end - 6), money(end, 104, 2), money(end, 105, 200), expect=1100000 + end)
+add("each batch rejected for its own reason", [N, W, I, A], put(2, 13, "130000000"), put(7, 44, "XXX"), put(13, 99, "00000002"), put(14, 9, amount(99)),
+    expect={1: (3, 2, 13), 2: (3, 7, 44), 3: (13, 13, 99), 4: (14, 14, 9)})
+
+# 01 Slips: the limit of a check's amount
+for value, answer in [(9999999999, SOUND), (10**10, fault(8, 3, 24))]:
+    add("a DC of %d cents" % value, [C], paid([C], {(0, 0): value}), expect=answer)
+for batch in (W, N, I, A):
+    add("a D%s of 10000000000 cents" % batch[0], [batch], paid([batch], {(0, 0): 10**10}), expect=SOUND)
+
+# repeats: of schedule numbers over the file, of Payment IDs in a batch (01 Batch reasons, 6)
+FIRST = IDENT + "  "
+add("a schedule number in two batches", [N, W], put(6, 6, FIRST), expect=fault(6, 6, 6, 2))
+add("the same, the first rejected", [N, W], put(2, 7, ""), put(6, 6, FIRST), expect={1: (1, 2, 7), 2: (6, 6, 6)})
+add("a schedule number in three batches", [N, W, I], put(6, 6, FIRST), put(10, 6, FIRST), expect={2: (6, 6, 6), 3: (6, 10, 6)})
+add("the third repeats the first", [N, W, I], put(10, 6, FIRST), expect=fault(6, 10, 6, 3))
+add("the third repeats the second", [N, W, I], put(10, 6, IDENT[:8] + "0100"), expect=fault(6, 10, 6, 3))
+add("schedule numbers that fall", [N, W, I], put(2, 6, "C"), put(6, 6, "B"), put(10, 6, "A"), expect=SOUND)
+add("schedule numbers that fall, and the first again", [N, W, I, A], *[put(n, 6, v) for n, v in ((2, "C"), (6, "B"), (10, "A"), (14, "C"))], expect=fault(6, 14, 6, 4))
+add("schedule numbers that fall, and the last again", [N, W, I, A], *[put(n, 6, v) for n, v in ((2, "C"), (6, "B"), (10, "A"), (14, "A"))], expect=fault(6, 14, 6, 4))
+add("blank schedule numbers: 1 at each", [N, W], put(2, 6, ""), put(6, 6, ""), expect={1: (1, 2, 6), 2: (1, 6, 6)})
+add("schedule numbers that differ in the last byte", [N, W], put(2, 6, "A" * 13 + "B"), put(6, 6, "A" * 13 + "C"), expect=SOUND)
+add("check batches with one schedule number: 6", [C, C], put(6, 6, FIRST), expect=fault(6, 6, 6, 2))
+add("check batches of one first serial: 6", [C, C], put(6, 6, FIRST), put(6, 19, SERIAL), put(7, 58, SERIAL), named(IDENT, 7, 8), expect=fault(6, 6, 6, 2))
+add("a Payment ID in two batches", [N, W], named(IDENT, 7, 8), expect=SOUND)
+add("a Payment ID in two batches of one kind", [N, N], named(IDENT, 7, 8), expect=SOUND)
+add("a Payment ID twice in a batch", [("N", 2, 1, 0, 0)], named(IDENT, 5, 6), expect=fault(6, 5, 23))
+add("a Payment ID twice in the second batch", [N, ("W", 2, 1, 0, 0)], named(IDENT[:8] + "0100", 9, 10), expect=fault(6, 9, 23, 2))
+add("the third payment repeats the first", [("I", 3, 1, 0, 0)], named(IDENT, 7, 8), expect=fault(6, 7, 23))
+
+# files of several batches with faults anywhere: the judge above decides
+FIELDS = {"DX": [66], "DT": [80, 84, 85, 86, 87, 88], "DP": [96], "BT": [99, 100]}
+FIELDS.update({"B" + letter: [f for f in PLACES if 6 <= f <= 20] for letter in LETTERS})
+FIELDS.update({"D" + letter: [f for f in PLACES if 25 <= f <= 62] for letter in LETTERS})
+VALUES = ["", "0", "1", "X", "00000", "2024-02-30", "99999999", "COLL", "00001234", "5515"]
+rng = random.Random(201)
+
+
+def any_change(records):
+    """A field, then a record that has it, then a value."""
+    places = collections.defaultdict(list)
+    for n, rec in enumerate(records, 1):
+        for field in FIELDS.get(code_of(rec), []):
+            places[field].append(n)
+    field = rng.choice(sorted(places))
+    return put(rng.choice(places[field]), field, rng.choice(VALUES)[:PLACES[field][1] - PLACES[field][0] + 1])
+
+
+for k in range(1, 121):
+    letters = "C" * rng.randrange(1, 4) if k % 4 == 0 else rng.choices(VOUCHERS, k=rng.randrange(1, 5))
+    batches = [(letter, rng.randrange(1, 4), rng.randrange(1, 3), rng.randrange(3), rng.randrange(3)) for letter in letters]
+    add("several batches, %d" % k, batches, *[any_change(whole(batches)) for _ in range(rng.randrange(1, 6))], expect=None)
+
+assert set(answers) == set(range(14)) - {3}  # 3 takes a file of more than 55,704,750 bytes
+assert len({line[:LABEL] for line in table}) == len(table)
+
+(here / "data").mkdir(exist_ok=True)
+(here / "data" / "book.bin").write_bytes(BOOK)
+(here / "data" / "records.bin").write_bytes(b"".join(ENDS + [r for letter in LETTERS for r in TEMPLATES[letter]]))
+(here / "stdin").write_text("".join(line + "\n" for line in table))
+(here / "stdout").write_text("".join(line + "\n" for line in says))
+if sys.argv[1:] == ["counts"]:
+    print(len(table), "cases; by answer", sorted(answers.items()), "; by reason and field", sorted(pairs.items()))

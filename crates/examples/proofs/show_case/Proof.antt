@@ -1,0 +1,38 @@
+use mathlib.Core.Path.{sym}
+use lib.Seq.{length-take-le}
+use borrow.Author.Needs.{needs}
+use Rattle.examples.proofs.show_case.Statement.{statement}
+use Rattle.examples.proofs.show_case.Tie as tie
+
+add-rows : tie.Need-add-rows
+add-rows c = search needs
+
+mul-rows : tie.Need-mul-rows
+mul-rows c = search needs
+
+slice-aggregate-show-answer : tie.Need-slice-aggregate-show-answer
+slice-aggregate-show-answer c = sym (length-take-le _ _ (search needs))
+
+slice-aggregate-show-answer-2 : tie.Need-slice-aggregate-show-answer-2
+slice-aggregate-show-answer-2 c = sym (length-take-le _ _ (search needs))
+
+show-answer-requires : tie.Need-show-answer-requires
+show-answer-requires c κs = search needs
+
+returns : tie.Need-returns
+returns c = search needs
+
+returns-2 : tie.Need-returns-2
+returns-2 c = search needs
+
+pub show-case-spec : {M : Type 1} → statement M
+show-case-spec =
+    tie.close
+    (tie.spec
+    add-rows
+    mul-rows
+    slice-aggregate-show-answer
+    slice-aggregate-show-answer-2
+    show-answer-requires
+    returns
+    returns-2)
