@@ -2,38 +2,19 @@
 """Writes what this program is run on, and what documents 01 and 004 say of it.
 
 data/records.bin holds sound records, data/book.bin a code book, stdin a table with a case a line, stdout the rows (01 Report).
-The judge below goes over whole lists of records and keeps no state from one to the next.
+The judge is reference/srf.py.
 """
-import datetime
 import pathlib
 import random
-import re
+import sys
 
 here = pathlib.Path(__file__).parent
-LETTERS = "NCWIA"
-VOUCHERS = "NWIA"  # the batches that have a voucher (004 fields 7 to 14)
+sys.path.insert(0, str(here.parent.parent / "reference"))
+from srf import (  # noqa: E402
+    LETTERS, PLACES, SYMBOL, VOUCHERS, amount, coded, ebcdic, faults, flagged, is_header, legal, paid_by, parsed,
+    payments_of, record, section, split, templates,
+)
 LABEL = 48
-
-# 004 chapter 2: start and end position of each field that document 01 names, by the records that have it
-PLACES = {
-    6: (3, 16), 7: (17, 22), 8: (23, 32), 9: (33, 52), 10: (53, 56), 12: (60, 68), 13: (69, 77), 14: (78, 85), 15: (86, 89),
-    16: (90, 90), 17: (91, 98), 18: (99, 102), 19: (103, 110), 20: (111, 114),
-    23: (3, 22), 24: (23, 42), 25: (43, 43), 26: (44, 90), 28: (107, 131), 29: (132, 139), 35: (350, 351), 36: (352, 356),
-    38: (361, 362), 42: (426, 434), 43: (435, 443), 44: (444, 446), 48: (506, 507), 51: (526, 545), 52: (546, 548),
-    54: (560, 573), 55: (574, 593), 56: (594, 603), 58: (654, 661), 59: (662, 669), 62: (674, 676),
-    65: (3, 22), 66: (23, 172), 77: (3, 22), 80: (28, 30), 84: (40, 43), 85: (44, 46), 86: (47, 54), 87: (55, 74), 88: (75, 75),
-    91: (3, 22), 96: (131, 150), 99: (3, 10), 100: (11, 30),
-}
-
-
-def ebcdic(text):
-    return text.encode("cp037")
-
-
-def held(rec, field):
-    start, end = PLACES[field]
-    return bytes(rec[start - 1:end]).decode("cp037")
-
 
 # ---- the code book (01 Code book)
 
@@ -45,278 +26,20 @@ COUNTRIES = ["CA", "US"]
 CURRENCIES = ["CAD", "USD"]
 
 
-def section(kind, entries):
-    body = b"".join(sorted(entries))
-    return (2 + len(body)).to_bytes(4, "little") + kind.to_bytes(2, "little") + body
-
-
-def coded(codes, width):
-    return [ebcdic(code.ljust(width)) for code in codes]
-
-
-def flagged(codes):
-    return [ebcdic(code.ljust(8)) + bytes([flag]) for code, flag in codes.items()]
-
-
 BOOK = b"".join([
     section(1, coded(["PAYROLL"], 40)), section(2, flagged(LOCATIONS)), section(3, flagged(BETCS)), section(4, coded(TYPES, 25)),
     section(5, coded(STATES, 2)), section(6, coded(COUNTRIES, 2)), section(7, coded(CURRENCIES, 3))])
-
-
-# ---- the judge (01 Batch reasons): what is wrong with a value is a reason, or 0
-
-def blank(value):
-    return not value.strip(" ")
-
-
-def is_digits(value):
-    return all(c in "0123456789" for c in value)
-
-
-def cents(value):
-    """An amount that is not 20 digits counts as zero in every sum."""
-    return int(value) if is_digits(value) else 0
-
-
-def first(*tests):
-    return next((reason for fails, reason in tests if fails), 0)
-
-
-def required(value):
-    return first((blank(value), 1))
-
-
-def number(value):
-    return first((blank(value), 1), (not is_digits(value), 2))
-
-
-def listed(value, values):
-    return first((blank(value), 1), (value not in [v.ljust(len(value)) for v in values], 3))
-
-
-def in_book(value, codes):
-    return first((blank(value), 1), (value not in [c.ljust(len(value)) for c in codes], 4))
-
-
-def if_filled(value, reason):
-    return 0 if blank(value) else reason
-
-
-def is_day(year, month, day):
-    try:
-        datetime.date(int(year), int(month), int(day))
-        return is_digits(year + month + day)
-    except ValueError:
-        return False
-
-
-def dashed_date(v):
-    return first((blank(v), 1), (v[4] + v[7] != "--" or not is_day(v[0:4], v[5:7], v[8:10]), 5))
-
-
-def plain_date(v):
-    return first((blank(v), 1), (not is_day(v[0:4], v[4:6], v[6:8]), 5))
-
-
-def routing(v):
-    prefixes = [*range(0, 13), *range(21, 33), *range(61, 73), 80]
-    return number(v) or first((int(v[:2]) not in prefixes, 3))
-
-
-def header_faults(h, letter, repeats):
-    v = lambda field: held(h, field)
-    yield 6, first((blank(v(6)), 1), (repeats, 6), (letter == "C" and v(6) != v(18) + v(19) + "  ", 7))
-    if letter in VOUCHERS:
-        yield 7, first((blank(v(7)), 1), (" " in v(7), 2))
-        yield 8, dashed_date(v(8))
-        yield 9, number(v(9))
-        yield 10, listed(v(10), ["5515", "215"])
-        if letter == "W":
-            yield 12, routing(v(12))
-        if letter == "N":
-            yield 13, routing(v(13))
-        yield 14, in_book(v(14), LOCATIONS)
-    else:
-        yield 15, number(v(15))
-        yield 16, listed(v(16), ["0"])
-        yield 17, plain_date(v(17))
-        yield 18, number(v(18)) or first((not 1000 <= int(v(18)) <= 9998, 8))
-        yield 19, number(v(19))
-        yield 20, number(v(20)) or first((not 1 <= int(v(20)[:2]) <= 12, 5))
-
-
-def detail_faults(d, letter, h, earlier):
-    """`earlier` are the details of the earlier payments."""
-    v = lambda field: held(d, field)
-    check = letter == "C"
-    own = held(h, 18) + v(58) + " " * 8
-    yield 23, first((blank(v(23)), 1), (v(23) in [held(e, 23) for e in earlier], 6), (check and v(23) != own, 7))
-    if check:
-        yield 24, number(v(24)) or first((int(v(24)) > 9999999999, 8), (v(25) == "1" and int(v(24)) != 0, 8))
-        yield 25, listed(v(25), ["0", "1"])
-    else:
-        yield 24, number(v(24)) or first((int(v(24)) == 0, 8))
-    yield 26, required(v(26))
-    yield 28, in_book(v(28), TYPES)
-    if check:
-        yield 29, in_book(v(29), LOCATIONS)
-    yield 35, if_filled(v(35), in_book(v(35), STATES))
-    yield 36, 0 if v(36) == "00000" else if_filled(v(36), number(v(36)))
-    yield 38, if_filled(v(38), in_book(v(38), COUNTRIES))
-    if letter == "W":
-        yield 42, routing(v(42))
-    if letter == "N":
-        yield 43, routing(v(43))
-    if letter == "W":
-        yield 44, listed(v(44), "CTR BTR CTP CKS DEP DRW DRC".split())
-    if letter == "N":
-        yield 48, 0 if v(48) == "00" else if_filled(v(48), listed(v(48), "22 32 42 52".split()))
-    if letter == "I":
-        yield 51, if_filled(v(51), listed(v(51), ["Electronic", "Check", "Western Union"]))
-    yield 52, if_filled(v(52), in_book(v(52), CURRENCIES))
-    if letter == "A":
-        yield 54, required(v(54))
-        yield 55, required(v(55))
-        yield 56, dashed_date(v(56))
-    if check:
-        start = held(h, 19)
-        yield 58, number(v(58)) or first((is_digits(start) and int(v(58)) != int(start) + len(earlier), 7))
-        yield 59, plain_date(v(59))
-    if letter == "N":
-        yield 62, listed(v(62), "CCD PPD IAT CTX".split())
-
-
-def party_faults(x, letter):
-    if letter != "A":
-        yield 66, required(held(x, 66))
-
-
-def account_faults(t, reporter):
-    for field in (80, 84, 85):
-        yield field, first((reporter and blank(held(t, field)), 1))
-    betc = held(t, 86)
-    yield 86, first((reporter and blank(betc), 1)) or if_filled(betc, in_book(betc, BETCS))
-    yield 87, number(held(t, 87))
-
-
-def procurement_faults(p, alone):
-    yield 96, 0 if alone and blank(held(p, 96)) else number(held(p, 96))
-
-
-def balances(paid, accounts):
-    amounts = [cents(held(t, 87)) for t in accounts]
-    if len(accounts) < 2:
-        return sum(amounts) == paid or not accounts
-    signs = [-1 if BETCS.get(held(t, 86).rstrip(" ")) else 1 for t in accounts]
-    return sum(sign * amount for sign, amount in zip(signs, amounts)) == paid
-
-
-def procures(paid, procurements):
-    values = [held(p, 96) for p in procurements]
-    if not values or len(values) == 1 and blank(values[0]):
-        return True
-    return sum(map(cents, values)) == paid
-
-
-def trailer_faults(t, payments, total):
-    yield 99, number(held(t, 99)) or first((int(held(t, 99)) != payments, 13))
-    yield 100, number(held(t, 100)) or first((int(held(t, 100)) != total, 14))
-
-
-def codes_of(records):
-    return "".join(bytes(r[:2]).decode("cp037") for r in records)
-
-
-def divided(records):
-    """The header, the payments and the trailer of the file's only batch, each record with its number; None where there is none (01 Nesting)."""
-    codes = codes_of(records)
-    if not re.fullmatch(r"FHB([NCWIA])(?:D\1(?:DX)+(?:DT){0,100}(?:DP){0,100})+BTFT", codes, re.S):
-        return None
-    numbered = list(enumerate(records, 1))
-    payments = [numbered[m.start() // 2:m.end() // 2] for m in re.finditer(r"D[NCWIA](?:DX|DT|DP)+", codes)]
-    if any(len({bytes(r[2:22]) for _, r in p}) > 1 for p in payments):
-        return None
-    return numbered[1], payments, numbered[-2]
-
-
-def kinds(payment, code):
-    return [(n, r) for n, r in payment if codes_of([r]) == code]
-
-
-def faults(header, payments, trailer, repeats):
-    """All that is wrong with a batch, in document 01's order: reason, record, field; reason 0 where nothing is."""
-    (head, h), (end, t) = header, trailer
-    letter = codes_of([h])[1]
-    details = [p[0][1] for p in payments]
-    yield from ((reason, head, field) for field, reason in header_faults(h, letter, repeats))
-    for i, payment in enumerate(payments):
-        n, d = payment[0]
-        location = held(d, 29) if letter == "C" else held(h, 14)
-        reporter = LOCATIONS.get(location.rstrip(" ")) == 1
-        accounts, procurements = kinds(payment, "DT"), kinds(payment, "DP")
-        yield from ((reason, n, field) for field, reason in detail_faults(d, letter, h, details[:i]))
-        for k, r in kinds(payment, "DX"):
-            yield from ((reason, k, field) for field, reason in party_faults(r, letter))
-        for k, r in accounts:
-            yield from ((reason, k, field) for field, reason in account_faults(r, reporter))
-        for k, r in procurements:
-            yield from ((reason, k, field) for field, reason in procurement_faults(r, len(procurements) == 1))
-        paid = cents(held(d, 24))
-        yield first((not balances(paid, [r for _, r in accounts]), 9)), n, 87
-        yield first((not procures(paid, [r for _, r in procurements]), 10)), n, 96
-        yield first((reporter and not accounts, 11)), n, 76
-    yield first((sum(len(kinds(p, "DT")) for p in payments) > 1000, 12)), head, 76
-    total = sum(cents(held(d, 24)) for d in details)
-    yield from ((reason, end, field) for field, reason in trailer_faults(t, len(payments), total))
-    if letter != "C" and is_digits(held(h, 9)):
-        yield first((int(held(h, 9)) != total, 14)), head, 9
+LISTS = parsed(BOOK)
 
 
 # ---- sound records, and files of them
 
-SYMBOL, SERIAL = "1234", "12345600"
+SERIAL = "12345600"
 IDENT = SYMBOL + SERIAL
 
 
-def record(code, **fields):
-    rec = bytearray(ebcdic(code.ljust(850)))
-    for name, value in fields.items():
-        start, end = PLACES[int(name[1:])]
-        rec[start - 1:end] = ebcdic(value.ljust(end - start + 1))
-    return bytes(rec)
-
-
-def amount(n):
-    return "%020d" % n
-
-
-HEADERS = {
-    "N": dict(f13="061000146"), "W": dict(f12="021030004"), "I": {}, "A": {},
-    "C": dict(f15="1234", f16="0", f17="20240229", f18=SYMBOL, f19=SERIAL, f20="0224"),
-}
-VOUCHER = dict(f7="000123", f8="2024-02-29", f10="5515", f14="00005678")
-DETAILS = {
-    "N": dict(f43="071000013", f48="22", f62="CCD"), "W": dict(f42="800000001", f44="CTR"), "I": dict(f51="Electronic"),
-    "A": dict(f54="2024-0001", f55="PAID-BEFORE", f56="2000-02-29"), "C": dict(f25="0", f29="00005678", f58=SERIAL, f59="20240229"),
-}
-EVERY = dict(f24=amount(100), f26="Ann Example", f28="Vendor", f35="CA", f36="90210", f38="US", f52="USD")
-ACCOUNT = dict(f77=IDENT, f80="020", f84="1234", f85="000", f86="DISB", f88="0")
-
-
-def templates(letter):
-    """Header, detail, DX, a payment's first DT, its others, its first DP, its others, BT: of a payment of 100 cents."""
-    return [
-        record("B" + letter, f6=IDENT, f9=amount(0), **HEADERS[letter], **({} if letter == "C" else VOUCHER)),
-        record("D" + letter, f23=IDENT, **EVERY, **DETAILS[letter]),
-        record("DX", f65=IDENT, f66="Ann Example"),
-        record("DT", **ACCOUNT, f87=amount(100)), record("DT", **ACCOUNT, f87=amount(0)),
-        record("DP", f91=IDENT, f96=amount(100)), record("DP", f91=IDENT, f96=amount(0)),
-        record("BT", f99="0" * 8, f100=amount(0)),
-    ]
-
-
 ENDS = [record("FH"), record("FT")]
-TEMPLATES = {letter: templates(letter) for letter in LETTERS}
+TEMPLATES = {letter: templates(letter, SERIAL) for letter in LETTERS}
 
 
 def with_two(rec, n, *positions):
@@ -360,13 +83,12 @@ def judged(letter, shape, changes, repeats):
     for rec, start, end, data in changes:
         for i in range(end - start + 1):
             records[rec - 1][start - 1 + i] = data[i % len(data)]
-    parts = divided(records)
-    if parts is None:
+    batch = list(enumerate(records, 1))[1:-1]
+    if not legal(records) or sum(map(is_header, records)) != 1:
         return None
-    header, payments, trailer = parts
-    wrong = [f for f in faults(*parts, repeats) if f[0]]
-    total = sum(cents(held(p[0][1], 24)) for p in payments)
-    return [header[0], len(records) - 2, len(payments), total // 10**10, total % 10**10, *(wrong or [(0, 0, 0)])[0]], wrong
+    wrong = [f for f in faults(batch, LISTS, repeats) if f[0]]
+    payments = payments_of(batch)
+    return [batch[0][0], len(batch), len(payments), *split(sum(map(paid_by, payments))), *(wrong or [(0, 0, 0)])[0]], wrong
 
 
 def add(label, letter, changes=(), shape=ONE, repeats=0, expect="sound"):
