@@ -29,7 +29,7 @@ use Rattle.rules.specs.declared.Context.{Context}
 use Rattle.rules.specs.Rules.{Rule, anyLetter, procurement, loneProcurement, reason, among, rows, rulesFor, findings}
 use Rattle.batch.specs.declared.payment.Open.{Open}
 use Rattle.batch.specs.Sums.{Entry, balances, allCents, procures}
-use Rattle.batch.specs.Batch.{accountAmount, procurementAmount, paid, isNone, isCredit, entered, each, eachProcurement, sums}
+use Rattle.batch.specs.Batch.{accountAmount, procurementAmount, paid, noRecords, isCredit, entryOf, each, eachProcurement, sums}
 use Rattle.batch.specs.Walk.{opened, withAccount, withProcurement, loneBlank, accountReason, procurementReason, lackReason, ended, nextProcurement}
 
 -- counts
@@ -309,13 +309,13 @@ module _ (bytes : List ℕ) (book : Book) where
 
   -- DT add to their count and to the signed sum
   accounts-counted : (o : Open) (ts : List Record)
-      → let es = map (entered bytes book) ts in
+      → let es = map (entryOf bytes book) ts in
       grown plusAccount o ts ≡ counted o (o .accounts + length es) (enteredAll (o .sum) es) (o .procurements) (o .blank) (o .procured)
-  unfolding grown withAccount enteredAll entered
+  unfolding grown withAccount enteredAll entryOf
   accounts-counted o [] = λ i. counted o (none-more (o .accounts) i) (o .sum) (o .procurements) (o .blank) (o .procured)
   accounts-counted o (t ∷ ts) =
-      let es = map (entered bytes book) ts in
-      let sum = enteredAll (o .sum) (entered bytes book t ∷ es) in
+      let es = map (entryOf bytes book) ts in
+      let sum = enteredAll (o .sum) (entryOf bytes book t ∷ es) in
       accounts-counted (plusAccount o t) ts
       ∙ (λ i. counted o (one-more (o .accounts) (length es) i) sum (o .procurements) (o .blank) (o .procured))
 
@@ -327,10 +327,10 @@ module _ (bytes : List ℕ) (book : Book) where
       (ap (λ (u : Open). u .context) e, ap (λ (u : Open). u .procurements) e)
 
   accounts-end : (n : ℕ) (c : Context) (a : ℕ) (ts : List Record)
-      → grown plusAccount (opened n c (split a)) ts ≡ standing n c a (map (entered bytes book) ts) []
+      → grown plusAccount (opened n c (split a)) ts ≡ standing n c a (map (entryOf bytes book) ts) []
   unfolding opened firstBlank allCents total
   accounts-end n c a ts =
-      let es = map (entered bytes book) ts in
+      let es = map (entryOf bytes book) ts in
       let o = standing n c a es [] in
       let e : enteredAll (record { positive = split 0; negative = split 0 }) es ≡ o .sum =
       entered-total es 0 0
@@ -339,10 +339,10 @@ module _ (bytes : List ℕ) (book : Book) where
 
   -- 11
   lack-end : (n : ℕ) (c : Context) (a : ℕ) (ts : List Record) (vs : List (List ℕ))
-      → lackReason (standing n c a (map (entered bytes book) ts) vs) ≡ choose (c .reporter and isNone ts) 11 0
-  unfolding lackReason isNone
+      → lackReason (standing n c a (map (entryOf bytes book) ts) vs) ≡ choose (c .reporter and noRecords ts) 11 0
+  unfolding lackReason noRecords
   lack-end n c a [] vs = refl
-  lack-end n c a (t ∷ ts) vs = rw (not-none (length (map (entered bytes book) ts)))
+  lack-end n c a (t ∷ ts) vs = rw (not-none (length (map (entryOf bytes book) ts)))
 
   -- a payment after all its records
   abbrev pub endOf : ℕ → Context → Payment → Open
@@ -352,7 +352,7 @@ module _ (bytes : List ℕ) (book : Book) where
   pub sums-end : (n : ℕ) (c : Context) (p : Payment) → ended (endOf n c p) ≡ sums bytes book (c .reporter) n p
   unfolding ended sums
   sums-end n c p =
-      let es = map (entered bytes book) (p .accounts) in
+      let es = map (entryOf bytes book) (p .accounts) in
       let vs = map procuredBy (p .procurements) in
       rw (accounts-end n c (paid p) (p .accounts), procured-end n c (paid p) es (p .procurements))
       (λ i. found (account-end n c (paid p) es vs i) n 87

@@ -107,9 +107,9 @@ context h repeats reporter earlier =
     }
 
 -- no records
-unfoldable pub isNone : List Record → Bool
-isNone [] = true
-isNone (r ∷ rs) = false
+unfoldable pub noRecords : List Record → Bool
+noRecords [] = true
+noRecords (r ∷ rs) = false
 
 -- 12: more than 1,000 DT in the batch, with the header's record and field 76
 unfoldable pub tooMany : ℕ → List Payment → Finding
@@ -132,8 +132,9 @@ module _ (bytes : List ℕ) (book : Book) where
   unfoldable pub isCredit : Record → Bool
   isCredit t = choose (blank (held t eventType)) false (flagOf (entry bytes book Betcs (held t eventType)))
 
-  unfoldable pub entered : Record → Entry
-  entered t = (isCredit t, cents (held t accountAmount))
+  -- a DT as the sum sees it
+  unfoldable pub entryOf : Record → Entry
+  entryOf t = (isCredit t, cents (held t accountAmount))
 
   -- what the rules find in records that stand one after the other; the first has this number
   unfoldable pub each : Context → List Rule → ℕ → List Record → List Finding
@@ -149,9 +150,9 @@ module _ (bytes : List ℕ) (book : Book) where
   -- 9, 10 and 11, with the detail's record and fields 87, 96 and 76 (01 Batch reasons)
   unfoldable pub sums : Bool → ℕ → Payment → List Finding
   sums reporter n p =
-      found (choose (balances (paid p) (map entered (p .accounts))) 0 9) n 87
+      found (choose (balances (paid p) (map entryOf (p .accounts))) 0 9) n 87
       ∷ found (choose (procures (paid p) (map (λ (r : Record). held r procurementAmount) (p .procurements))) 0 10) n 96
-      ∷ found (choose (reporter and isNone (p .accounts)) 11 0) n 76
+      ∷ found (choose (reporter and noRecords (p .accounts)) 11 0) n 76
       ∷ []
 
   -- a payment: its detail, its other records in file order, its sums
