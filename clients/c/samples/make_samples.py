@@ -1,0 +1,70 @@
+#!/usr/bin/env python3
+"""Writes the samples of the C client: the program's own sample, and files made from it by a change or two."""
+import pathlib
+import sys
+
+here = pathlib.Path(__file__).resolve().parent
+root = here.parents[2]
+sys.path.insert(0, str(root / "reference"))
+from srf import PLACES, amount, ebcdic, held  # noqa: E402
+
+shipped = (root / "crates" / "srf_judge" / "stdin").read_bytes()
+FH, BN, DN, DX, BT, FT = [shipped[i:i + 850] for i in range(0, len(shipped), 850)]
+CENTS = int(held(DN, 24))
+
+
+def put(rec, code=None, **fields):
+    """The record with values in fields, and with another code."""
+    rec = bytearray(rec)
+    for name, value in fields.items():
+        start, end = PLACES[int(name[1:])]
+        assert len(value) <= end - start + 1, (name, value)
+        rec[start - 1:end] = ebcdic(value.ljust(end - start + 1))
+    rec[:2] = ebcdic(code) if code else rec[:2]
+    return bytes(rec)
+
+
+def whole(*records, payments=1, cents=CENTS):
+    return b"".join(records) + put(FT, f103="%018d" % (len(records) + 1), f104="%018d" % payments, f105=amount(cents))
+
+
+def large():
+    """The greatest amount: its cents pass 64 bits."""
+    nines = 10**20 - 1
+    return whole(FH, put(BN, f9=amount(nines)), put(DN, f24=amount(nines)), DX, put(BT, f100=amount(nines)), cents=nines)
+
+
+def shuffled():
+    """Payment IDs that do not climb: only then the judge keeps marks of them."""
+    payments = [put(rec, **{field: ident}) for ident in ("PAYMENT-0002", "PAYMENT-0001") for rec, field in ((DN, "f23"), (DX, "f65"))]
+    return whole(FH, put(BN, f9=amount(2 * CENTS)), *payments, put(BT, f99="%08d" % 2, f100=amount(2 * CENTS)), payments=2, cents=2 * CENTS)
+
+
+def checks():
+    symbol, serial = "4321", "00000001"
+    ident, location = symbol + serial, held(BN, 14)
+    return whole(
+        FH, put(BN, "BC", f6=ident, f15="1234", f16="0", f17="20240229", f18=symbol, f19=serial, f20="0224"),
+        put(DN, "DC", f23=ident, f25="0", f29=location, f58=serial, f59="20240229"), put(DX, f65=ident), BT)
+
+
+def rejected():
+    """A second batch, of a location that the book lacks."""
+    other = put(BN, f6="SCHEDULE-0002", f14="00009999")
+    return whole(FH, BN, DN, DX, BT, other, DN, DX, BT, payments=2, cents=2 * CENTS)
+
+
+SAMPLES = {
+    "sound": shipped,
+    "large": large(),
+    "shuffled": shuffled(),
+    "checks": checks(),
+    "rejected": rejected(),
+    "refused": shipped.replace(DX, put(DX, "BT")),
+    "short": shipped[:4 * 850],
+    "cut": shipped[:-1],
+    "empty": b"",
+}
+
+for name, file in SAMPLES.items():
+    (here / (name + ".srf")).write_bytes(file)

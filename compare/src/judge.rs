@@ -1,0 +1,1532 @@
+//! A judge of SRF files, read from document 01 (the rules), 004 (layouts and values) and the readings. It stands in document 01's order:
+//! bytes, nesting, code book, file answers, report, batch reasons. "01 X" cites a section of document 01, "004 n" a field.
+
+use crate::layout::{self, place, Kind, RECORD};
+use std::collections::HashSet;
+use std::ops::Range;
+
+type Raw = [u8; RECORD];
+
+/// Returns 0 and writes the rows, or returns reason x 100,000 + record and leaves the report untouched (01 File answers, Report).
+pub fn judge(file: &[u8], book: &[u8], report: &mut [u8]) -> u64 {
+    match file_answer(file, book, report.len()) {
+        Ok(accepted) => {
+            accepted.write(report);
+            0
+        }
+        Err(Refusal { reason, record }) => reason as u64 * 100_000 + record as u64,
+    }
+}
+
+// ---------------------------------------------------------------- 01 Bytes
+
+const BLANK: u8 = ebcdic(b' ');
+const HYPHEN: u8 = ebcdic(b'-');
+const ZERO: u8 = ebcdic(b'0');
+const NINE: u8 = ebcdic(b'9');
+
+/// 01 Bytes: the code page, as far as the documents' own values need it.
+const fn ebcdic(ascii: u8) -> u8 {
+    match ascii {
+        b'A'..=b'I' => 0xC1 + (ascii - b'A'),
+        b'J'..=b'R' => 0xD1 + (ascii - b'J'),
+        b'S'..=b'Z' => 0xE2 + (ascii - b'S'),
+        b'a'..=b'i' => 0x81 + (ascii - b'a'),
+        b'j'..=b'r' => 0x91 + (ascii - b'j'),
+        b's'..=b'z' => 0xA2 + (ascii - b's'),
+        b'0'..=b'9' => 0xF0 + (ascii - b'0'),
+        b'-' => 0x60,
+        _ => 0x40,
+    }
+}
+
+/// A value as it stands in a field of width N: left justified, blanks on the right (004 section 1.7).
+const fn text<const N: usize>(ascii: &str) -> [u8; N] {
+    let mut bytes = [BLANK; N];
+    let mut i = 0;
+    while i < N && i < ascii.len() {
+        bytes[i] = ebcdic(ascii.as_bytes()[i]);
+        i += 1;
+    }
+    bytes
+}
+
+/// 004 section 1.2: the second byte of a batch header's or a detail's record code.
+const NACHA: u8 = ebcdic(b'N');
+const CHECK: u8 = ebcdic(b'C');
+const WIRE: u8 = ebcdic(b'W');
+const INTERNATIONAL: u8 = ebcdic(b'I');
+const ADJUSTMENT: u8 = ebcdic(b'A');
+
+const FH: [u8; 2] = text("FH");
+const BN: [u8; 2] = text("BN");
+const BC: [u8; 2] = text("BC");
+const BW: [u8; 2] = text("BW");
+const BI: [u8; 2] = text("BI");
+const BA: [u8; 2] = text("BA");
+const DN: [u8; 2] = text("DN");
+const DC: [u8; 2] = text("DC");
+const DW: [u8; 2] = text("DW");
+const DI: [u8; 2] = text("DI");
+const DA: [u8; 2] = text("DA");
+const DX: [u8; 2] = text("DX");
+const DT: [u8; 2] = text("DT");
+const DP: [u8; 2] = text("DP");
+const BT: [u8; 2] = text("BT");
+const FT: [u8; 2] = text("FT");
+
+/// 004 section 1.2: record codes. None is no code at all.
+fn kind(record: &Raw) -> Option<Kind> {
+    match [record[0], record[1]] {
+        FH => Some(Kind::FileHeader),
+        BN | BC | BW | BI | BA => Some(Kind::BatchHeader),
+        DN | DC | DW | DI | DA => Some(Kind::Detail),
+        DX => Some(Kind::Party),
+        DT => Some(Kind::TasBetc),
+        DP => Some(Kind::Procurement),
+        BT => Some(Kind::BatchTrailer),
+        FT => Some(Kind::FileTrailer),
+        _ => None,
+    }
+}
+
+/// The batch letter of a batch header or a detail.
+fn letter(record: &Raw) -> u8 {
+    record[1]
+}
+
+/// 01 Bytes: the stretches outside fillers. Every filler but 11 ends its record.
+fn stretches(kind: Kind) -> [Range<usize>; 2] {
+    let before = |filler| [0..place(filler).start, 0..0];
+    match kind {
+        Kind::FileHeader => before(4),
+        Kind::BatchHeader => [0..place(11).start, place(11).end..place(21).start],
+        Kind::Detail => before(63),
+        Kind::Party => before(75),
+        Kind::TasBetc => before(89),
+        Kind::Procurement => before(97),
+        Kind::BatchTrailer => before(101),
+        Kind::FileTrailer => before(106),
+    }
+}
+
+/// 01 Bytes: every byte outside fillers must be 40-FF. The least byte of a stretch is taken without an early exit, so that it vectorises.
+fn has_low_byte(record: &Raw) -> bool {
+    let least = |stretch: Range<usize>| record[stretch].iter().fold(0xFF, |least: u8, &byte| least.min(byte));
+    kind(record).is_some_and(|kind| stretches(kind).into_iter().any(|stretch| least(stretch) < 0x40))
+}
+
+fn is_blank(field: &[u8]) -> bool {
+    field.iter().all(|&byte| byte == BLANK)
+}
+
+fn is_zeros(field: &[u8]) -> bool {
+    field.iter().all(|&byte| byte == ZERO)
+}
+
+/// The value of a field of digits only; no numeric field but the amounts is wider than 18.
+fn number(field: &[u8]) -> Option<u64> {
+    let digits = field.iter().all(|byte| (ZERO..=NINE).contains(byte));
+    digits.then(|| field.iter().fold(0, |value, byte| value * 10 + u64::from(byte - ZERO)))
+}
+
+/// 01 Report splits totals here, and so do the amounts: twenty digits pass 64 bits, ten do not.
+const TEN_TO_10: u128 = 10_000_000_000;
+
+/// The value of an amount of twenty digits (004 9, 24, 87, 96, 100, 105).
+fn amount(field: &[u8]) -> Option<u128> {
+    let (high, low) = field.split_at(10);
+    Some(u128::from(number(high)?) * TEN_TO_10 + u128::from(number(low)?))
+}
+
+// ---------------------------------------------------------------- 01 Nesting
+
+/// The last record read.
+#[derive(Clone, Copy)]
+enum Stage {
+    Start,
+    FileHeader,
+    BatchHeader,
+    Detail,
+    Party,
+    /// With the number of DT of the payment so far.
+    TasBetc(usize),
+    /// With the number of DP of the payment so far.
+    Procurement(usize),
+    BatchTrailer,
+    FileTrailer,
+}
+
+#[derive(Clone, Copy)]
+struct Nesting<'a> {
+    stage: Stage,
+    /// Of the last batch header.
+    letter: u8,
+    /// Of the last detail.
+    payment_id: &'a [u8],
+}
+
+/// 01 Nesting: 0 to 100 DT and 0 to 100 DP in a payment.
+const MOST_IN_PAYMENT: usize = 100;
+
+impl<'a> Nesting<'a> {
+    /// The state after one more record, or None where the records so far begin no legal file.
+    fn step(self, record: &'a Raw) -> Option<Self> {
+        let id = &record[place(23)]; // 65, 77 and 91 stand in the same place
+        let own_id = || id == self.payment_id;
+        let own_letter = || letter(record) == self.letter;
+        let mixes_checks = || (letter(record) == CHECK) != (self.letter == CHECK);
+        let to = |stage| Some(Nesting { stage, ..self });
+
+        match (kind(record)?, self.stage) {
+            (Kind::FileHeader, Stage::Start) => to(Stage::FileHeader),
+
+            (Kind::BatchHeader, Stage::BatchTrailer) if mixes_checks() => None,
+            (Kind::BatchHeader, Stage::FileHeader | Stage::BatchTrailer) => Some(Nesting {
+                stage: Stage::BatchHeader,
+                letter: letter(record),
+                ..self
+            }),
+
+            (Kind::Detail, Stage::BatchHeader | Stage::Party | Stage::TasBetc(_) | Stage::Procurement(_)) if own_letter() => {
+                Some(Nesting {
+                    stage: Stage::Detail,
+                    payment_id: id,
+                    ..self
+                })
+            }
+
+            (Kind::Party, Stage::Detail | Stage::Party) if own_id() => to(Stage::Party),
+
+            (Kind::TasBetc, Stage::Party) if own_id() => to(Stage::TasBetc(1)),
+            (Kind::TasBetc, Stage::TasBetc(n)) if own_id() && n < MOST_IN_PAYMENT => to(Stage::TasBetc(n + 1)),
+
+            (Kind::Procurement, Stage::Party | Stage::TasBetc(_)) if own_id() => to(Stage::Procurement(1)),
+            (Kind::Procurement, Stage::Procurement(n)) if own_id() && n < MOST_IN_PAYMENT => to(Stage::Procurement(n + 1)),
+
+            (Kind::BatchTrailer, Stage::Party | Stage::TasBetc(_) | Stage::Procurement(_)) => to(Stage::BatchTrailer),
+
+            (Kind::FileTrailer, Stage::BatchTrailer) => to(Stage::FileTrailer),
+
+            _ => None,
+        }
+    }
+}
+
+/// 01 File answers 5: Err with the first record that begins no legal file, or last + 1 where only the end is missing.
+fn nesting(records: &[Raw]) -> Result<(), usize> {
+    let mut state = Nesting {
+        stage: Stage::Start,
+        letter: BLANK,
+        payment_id: &[],
+    };
+    for (index, record) in records.iter().enumerate() {
+        state = state.step(record).ok_or(index + 1)?;
+    }
+    match state.stage {
+        Stage::FileTrailer => Ok(()),
+        _ => Err(records.len() + 1),
+    }
+}
+
+// ---------------------------------------------------------------- 01 Code book
+
+/// Entries as they stand: a code, and in kinds 2 and 3 a flag after it.
+struct Book<'a> {
+    input_systems: &'a [[u8; 40]],
+    locations: &'a [[u8; 9]],
+    betcs: &'a [[u8; 9]],
+    payment_types: &'a [[u8; 25]],
+    states: &'a [[u8; 2]],
+    countries: &'a [[u8; 2]],
+    currencies: &'a [[u8; 3]],
+}
+
+const LONGEST_BOOK: usize = 16_777_216;
+
+impl<'a> Book<'a> {
+    /// None where unsound.
+    fn read(book: &'a [u8]) -> Option<Self> {
+        if book.len() > LONGEST_BOOK {
+            return None;
+        }
+        let rest = &mut &*book;
+        let read = Book {
+            input_systems: section(rest, 1, 40)?,
+            locations: section(rest, 2, 8)?,
+            betcs: section(rest, 3, 8)?,
+            payment_types: section(rest, 4, 25)?,
+            states: section(rest, 5, 2)?,
+            countries: section(rest, 6, 2)?,
+            currencies: section(rest, 7, 3)?,
+        };
+        rest.is_empty().then_some(read)
+    }
+}
+
+/// Takes one section off the rest of the book. A code fills the first `code` bytes of an entry; a flag may follow.
+fn section<'a, const ENTRY: usize>(rest: &mut &'a [u8], kind: u16, code: usize) -> Option<&'a [[u8; ENTRY]]> {
+    let (length, after) = rest.split_first_chunk()?;
+    let (body, after) = after.split_at_checked(u32::from_le_bytes(*length) as usize)?;
+    let (stated_kind, body) = body.split_first_chunk()?;
+    let (entries, part_of_an_entry) = body.as_chunks();
+    *rest = after;
+
+    let sound = u16::from_le_bytes(*stated_kind) == kind
+        && part_of_an_entry.is_empty()
+        && entries.windows(2).all(|pair| pair[0][..code] < pair[1][..code])
+        && entries
+            .iter()
+            .all(|entry: &[u8; ENTRY]| entry[code..].iter().all(|&flag| flag <= 1));
+    sound.then_some(entries)
+}
+
+/// The entry with this code; codes ascend.
+fn find<'a, const ENTRY: usize>(section: &'a [[u8; ENTRY]], code: &[u8]) -> Option<&'a [u8; ENTRY]> {
+    let found = section.binary_search_by(|entry| entry[..code.len()].cmp(code));
+    found.ok().map(|index| &section[index])
+}
+
+/// Kind 2: 1 for a CARS Reporter. Kind 3: 1 for a credit.
+fn flag(entry: &[u8; 9]) -> bool {
+    entry[8] == 1
+}
+
+// ---------------------------------------------------------------- 01 File answers
+
+/// Numbered as in the table.
+#[derive(Clone, Copy)]
+enum FileReason {
+    Empty = 1,
+    Length = 2,
+    TooManyRecords = 3,
+    Book = 4,
+    Nesting = 5,
+    Report = 6,
+    LowByte = 7,
+    InputSystem = 8,
+    Version = 9,
+    TrailerNumber = 10,
+    RecordCount = 11,
+    DetailCount = 12,
+    TotalAmount = 13,
+}
+
+struct Refusal {
+    reason: FileReason,
+    record: usize,
+}
+
+/// What the rows are written from.
+struct Accepted<'a> {
+    book: Book<'a>,
+    batches: Vec<Batch<'a>>,
+    records: usize,
+    payments: u64,
+    total: u128,
+}
+
+const MOST_RECORDS: usize = 65_535;
+const VERSION: [u8; 3] = text("201");
+
+fn refusal(reason: FileReason, record: usize) -> Refusal {
+    Refusal { reason, record }
+}
+
+fn refuse_if(applies: bool, reason: FileReason, record: usize) -> Result<(), Refusal> {
+    if applies {
+        Err(refusal(reason, record))
+    } else {
+        Ok(())
+    }
+}
+
+/// 01 File answers, in the table's order. `room` is the length of the report.
+fn file_answer<'a>(file: &'a [u8], book: &'a [u8], room: usize) -> Result<Accepted<'a>, Refusal> {
+    refuse_if(file.is_empty(), FileReason::Empty, 0)?;
+    let (records, part_of_a_record) = file.as_chunks::<RECORD>();
+    refuse_if(!part_of_a_record.is_empty(), FileReason::Length, 0)?;
+    refuse_if(records.len() > MOST_RECORDS, FileReason::TooManyRecords, 0)?;
+    let book = Book::read(book).ok_or(refusal(FileReason::Book, 0))?;
+    nesting(records).map_err(|record| refusal(FileReason::Nesting, record))?;
+
+    let batches = batches(records);
+    refuse_if(room < ROW * (1 + batches.len()), FileReason::Report, 0)?;
+    if let Some(index) = records.iter().position(has_low_byte) {
+        return Err(refusal(FileReason::LowByte, index + 1));
+    }
+
+    let input_system = layout::of(&records[0], 2);
+    let unknown = is_blank(input_system) || find(book.input_systems, input_system).is_none();
+    refuse_if(unknown, FileReason::InputSystem, 1)?;
+    refuse_if(*layout::of(&records[0], 3) != VERSION, FileReason::Version, 1)?;
+
+    let last = records.len();
+    let trailer = |field| layout::of(&records[last - 1], field);
+    let (record_count, detail_count, total_amount) = (number(trailer(103)), number(trailer(104)), amount(trailer(105)));
+    let non_digit = record_count.is_none() || detail_count.is_none() || total_amount.is_none();
+    refuse_if(non_digit, FileReason::TrailerNumber, last)?;
+
+    let payments = batches.iter().map(|batch| batch.payments).sum();
+    let total = batches.iter().map(|batch| batch.total).sum();
+    refuse_if(record_count != Some(last as u64), FileReason::RecordCount, last)?;
+    refuse_if(detail_count != Some(payments), FileReason::DetailCount, last)?;
+    refuse_if(total_amount != Some(total), FileReason::TotalAmount, last)?;
+
+    Ok(Accepted {
+        book,
+        batches,
+        records: last,
+        payments,
+        total,
+    })
+}
+
+/// A batch of a well nested file, with its counts and total, which stand whether or not it is rejected.
+struct Batch<'a> {
+    /// Number in the file, from 1, of the header.
+    first: u64,
+    /// From the header to BT.
+    records: &'a [Raw],
+    payments: u64,
+    total: u128,
+}
+
+/// The batches of well nested records. 01 File answers: an amount that is not 20 digits counts as zero.
+fn batches(records: &[Raw]) -> Vec<Batch<'_>> {
+    let mut batches = Vec::new();
+    let (mut start, mut payments, mut total) = (0, 0, 0);
+    for (index, record) in records.iter().enumerate() {
+        match kind(record) {
+            Some(Kind::BatchHeader) => (start, payments, total) = (index, 0, 0),
+            Some(Kind::Detail) => {
+                payments += 1;
+                total += amount(layout::of(record, 24)).unwrap_or(0);
+            }
+            Some(Kind::BatchTrailer) => {
+                batches.push(Batch {
+                    first: start as u64 + 1,
+                    records: &records[start..=index],
+                    payments,
+                    total,
+                });
+            }
+            _ => {}
+        }
+    }
+    batches
+}
+
+// ---------------------------------------------------------------- 01 Report
+
+/// Eight numbers of eight bytes.
+const ROW: usize = 64;
+
+impl Accepted<'_> {
+    fn write(&self, report: &mut [u8]) {
+        let mut rows = report.chunks_exact_mut(ROW);
+        let mut write = |numbers| {
+            if let Some(row) = rows.next() {
+                write_row(row, numbers);
+            }
+        };
+
+        let (high, low) = split(self.total);
+        write([0, 0, self.records as u64, self.payments, high, low, self.batches.len() as u64, 0]);
+        let mut schedule_numbers = HashSet::with_capacity(self.batches.len());
+        for batch in &self.batches {
+            let (high, low) = split(batch.total);
+            let (reason, record, field) = match batch_rules(batch, &self.book, &mut schedule_numbers) {
+                Ok(()) => (0, 0, 0),
+                Err(Fault { reason, record, field }) => (reason as u64, record, field),
+            };
+            let records = batch.records.len() as u64;
+            write([batch.first, records, batch.payments, high, low, reason, record, field]);
+        }
+    }
+}
+
+fn write_row(row: &mut [u8], numbers: [u64; 8]) {
+    for (bytes, number) in row.chunks_exact_mut(8).zip(numbers) {
+        bytes.copy_from_slice(&number.to_le_bytes());
+    }
+}
+
+/// A total div and mod 10^10. 65,535 amounts below 10^20 keep the first below 2^64.
+fn split(total: u128) -> (u64, u64) {
+    ((total / TEN_TO_10) as u64, (total % TEN_TO_10) as u64)
+}
+
+// ---------------------------------------------------------------- 01 Batch reasons
+
+/// Numbered as in the table.
+#[derive(Clone, Copy)]
+enum Reason {
+    Blank = 1,
+    Shape = 2,
+    Unlisted = 3,
+    NotInBook = 4,
+    NoDate = 5,
+    Repeats = 6,
+    Unmatched = 7,
+    Range = 8,
+    TasSum = 9,
+    ProcurementSum = 10,
+    WithoutTas = 11,
+    TooManyTas = 12,
+    Count = 13,
+    Amount = 14,
+}
+
+struct Fault {
+    reason: Reason,
+    record: u64,
+    field: u64,
+}
+
+/// A check ends at the first fault.
+type Check<T = ()> = Result<T, Fault>;
+
+/// A record with its number in the file, and the checks that the sections below are worded in.
+#[derive(Clone, Copy)]
+struct Record<'a> {
+    raw: &'a Raw,
+    number: u64,
+}
+
+impl<'a> Record<'a> {
+    fn field(self, field: u64) -> &'a [u8] {
+        layout::of(self.raw, field)
+    }
+
+    fn filled(self, field: u64) -> bool {
+        !is_blank(self.field(field))
+    }
+
+    /// 01 Others: 36 and 48 are also unfilled when all zeros.
+    fn filled_not_zeros(self, field: u64) -> bool {
+        self.filled(field) && !is_zeros(self.field(field))
+    }
+
+    fn fault(self, field: u64, reason: Reason) -> Fault {
+        Fault {
+            reason,
+            record: self.number,
+            field,
+        }
+    }
+
+    fn must(self, holds: bool, field: u64, reason: Reason) -> Check {
+        if holds {
+            Ok(())
+        } else {
+            Err(self.fault(field, reason))
+        }
+    }
+
+    fn required(self, field: u64) -> Check {
+        self.must(self.filled(field), field, Reason::Blank)
+    }
+
+    fn digits(self, field: u64) -> Check<u64> {
+        self.required(field)?;
+        number(self.field(field)).ok_or(self.fault(field, Reason::Shape))
+    }
+
+    fn amount(self, field: u64) -> Check<u128> {
+        self.required(field)?;
+        amount(self.field(field)).ok_or(self.fault(field, Reason::Shape))
+    }
+
+    fn listed<const N: usize>(self, field: u64, values: &[[u8; N]]) -> Check {
+        self.required(field)?;
+        self.must(values.iter().any(|value| value == self.field(field)), field, Reason::Unlisted)
+    }
+
+    /// The entry of the book's section.
+    fn in_book<const ENTRY: usize>(self, field: u64, section: &[[u8; ENTRY]]) -> Check<&[u8; ENTRY]> {
+        self.required(field)?;
+        find(section, self.field(field)).ok_or(self.fault(field, Reason::NotInBook))
+    }
+
+    fn date(self, field: u64, is_date: fn(&[u8]) -> bool) -> Check {
+        self.required(field)?;
+        self.must(is_date(self.field(field)), field, Reason::NoDate)
+    }
+
+    /// 01 Routing number. Nine zeros pass by their prefix.
+    fn routing_number(self, field: u64) -> Check {
+        let prefix = self.digits(field)? / 10_000_000;
+        self.must(matches!(prefix, 0..=12 | 21..=32 | 61..=72 | 80), field, Reason::Unlisted)
+    }
+}
+
+/// 01 Date: Gregorian, years 0001 to 9999.
+fn is_day(year: &[u8], month: &[u8], day: &[u8]) -> bool {
+    let (Some(year), Some(month), Some(day)) = (number(year), number(month), number(day)) else {
+        return false;
+    };
+    let leap = year % 4 == 0 && (year % 100 != 0 || year % 400 == 0);
+    let days = match month {
+        1 | 3 | 5 | 7 | 8 | 10 | 12 => 31,
+        4 | 6 | 9 | 11 => 30,
+        2 if leap => 29,
+        2 => 28,
+        _ => 0,
+    };
+    year >= 1 && (1..=days).contains(&day)
+}
+
+/// CCYY-MM-DD (004 8, 56).
+fn hyphened_date(field: &[u8]) -> bool {
+    field[4] == HYPHEN && field[7] == HYPHEN && is_day(&field[..4], &field[5..7], &field[8..])
+}
+
+/// YYYYMMDD (004 17, 59).
+fn plain_date(field: &[u8]) -> bool {
+    is_day(&field[..4], &field[4..6], &field[6..])
+}
+
+/// 004 10.
+const VOUCHER_FORMS: [[u8; 4]; 2] = [text("5515"), text("215")];
+/// 004 16.
+const REGULAR_CHECK: [[u8; 1]; 1] = [text("0")];
+/// 004 25.
+const VOIDED: [u8; 1] = text("1");
+const VOIDED_OR_NOT: [[u8; 1]; 2] = [text("0"), VOIDED];
+/// 004 44.
+#[rustfmt::skip]
+const BUSINESS_FUNCTIONS: [[u8; 3]; 7] = [text("CTR"), text("BTR"), text("CTP"), text("CKS"), text("DEP"), text("DRW"), text("DRC")];
+/// 004 48.
+const ACH_TRANSACTIONS: [[u8; 2]; 4] = [text("22"), text("32"), text("42"), text("52")];
+/// 004 51.
+const PAYER_MECHANISMS: [[u8; 20]; 3] = [text("Electronic"), text("Check"), text("Western Union")];
+/// 004 62.
+const ENTRY_CLASSES: [[u8; 3]; 4] = [text("CCD"), text("PPD"), text("IAT"), text("CTX")];
+
+/// 01 Batch reasons 12.
+const MOST_TAS_IN_BATCH: usize = 1_000;
+
+/// 01 Batch reasons, Order: header, each payment, 12, BT, field 9's sum. `schedule_numbers` holds those of all earlier batches.
+fn batch_rules<'a>(batch: &Batch<'a>, book: &Book, schedule_numbers: &mut HashSet<&'a [u8]>) -> Check {
+    let [header, payments @ .., trailer] = batch.records else {
+        return Ok(()); // no batch of a well nested file
+    };
+    let header = Record {
+        raw: header,
+        number: batch.first,
+    };
+    let trailer = Record {
+        raw: trailer,
+        number: batch.first + batch.records.len() as u64 - 1,
+    };
+
+    let batch_reports = header_rules(header, book, schedule_numbers)?;
+
+    let mut payment_ids = HashSet::with_capacity(batch.payments as usize);
+    let mut number = header.number + 1;
+    let mut tas = 0;
+    for (earlier, records) in payments.chunk_by(|_, next| kind(next) != Some(Kind::Detail)).enumerate() {
+        let within = InBatch {
+            header,
+            batch_reports,
+            earlier: earlier as u64,
+        };
+        tas += payment_rules(records, number, within, book, &mut payment_ids)?;
+        number += records.len() as u64;
+    }
+    header.must(tas <= MOST_TAS_IN_BATCH, 76, Reason::TooManyTas)?;
+
+    trailer_rules(trailer, batch)?;
+    let sum_matches = letter(header.raw) == CHECK || amount(header.field(9)) == Some(batch.total);
+    header.must(sum_matches, 9, Reason::Amount)
+}
+
+/// 01 Header. Gives whether field 14 is a CARS Reporter (never in BC, where field 29 decides).
+fn header_rules<'a>(header: Record<'a>, book: &Book, schedule_numbers: &mut HashSet<&'a [u8]>) -> Check<bool> {
+    header.required(6)?;
+    header.must(schedule_numbers.insert(header.field(6)), 6, Reason::Repeats)?;
+    match letter(header.raw) {
+        CHECK => check_header_rules(header).map(|()| false),
+        _ => voucher_header_rules(header, book),
+    }
+}
+
+/// 01 Header: BN, BW, BI, BA.
+fn voucher_header_rules(header: Record, book: &Book) -> Check<bool> {
+    header.required(7)?;
+    header.must(!header.field(7).contains(&BLANK), 7, Reason::Shape)?;
+    header.date(8, hyphened_date)?;
+    header.amount(9)?;
+    header.listed(10, &VOUCHER_FORMS)?;
+    match letter(header.raw) {
+        WIRE => header.routing_number(12)?,
+        NACHA => header.routing_number(13)?,
+        _ => {}
+    }
+    header.in_book(14, book.locations).map(flag)
+}
+
+/// 01 Header: BC.
+fn check_header_rules(header: Record) -> Check {
+    header.must(is_joined(header.field(6), header.field(18), header.field(19)), 6, Reason::Unmatched)?;
+    header.digits(15)?;
+    header.listed(16, &REGULAR_CHECK)?;
+    header.date(17, plain_date)?;
+    let symbol = header.digits(18)?;
+    header.must((1000..=9998).contains(&symbol), 18, Reason::Range)?;
+    header.digits(19)?;
+    let month = header.digits(20)? / 100;
+    header.must((1..=12).contains(&month), 20, Reason::NoDate)
+}
+
+/// Whether a field is a check symbol, then a serial number, then blanks, as they stand (004 6, 23).
+fn is_joined(field: &[u8], symbol: &[u8], serial: &[u8]) -> bool {
+    let rest = field.strip_prefix(symbol).and_then(|rest| rest.strip_prefix(serial));
+    rest.is_some_and(is_blank)
+}
+
+/// What a payment's rules take from its batch.
+#[derive(Clone, Copy)]
+struct InBatch<'a> {
+    header: Record<'a>,
+    /// Whether field 14 is a CARS Reporter.
+    batch_reports: bool,
+    /// The number of earlier payments in the batch.
+    earlier: u64,
+}
+
+/// 01 Batch reasons, Order: the detail, its other records in file order, then 9, 10 and 11. Gives the number of DT.
+fn payment_rules<'a>(records: &'a [Raw], number: u64, within: InBatch, book: &Book, payment_ids: &mut HashSet<&'a [u8]>) -> Check<usize> {
+    let [detail, others @ ..] = records else {
+        return Ok(0); // no payment of a well nested file
+    };
+    let detail = Record { raw: detail, number };
+    let (paid, reports) = detail_rules(detail, within, book, payment_ids)?;
+
+    let count = |wanted| others.iter().filter(|raw| kind(raw) == Some(wanted)).count();
+    let (tas, procurements) = (count(Kind::TasBetc), count(Kind::Procurement));
+    let (mut tas_sum, mut procurement_sum) = (None, None);
+    for (raw, number) in others.iter().zip(number + 1..) {
+        let record = Record { raw, number };
+        match kind(raw) {
+            Some(Kind::Party) => party_rules(record, letter(detail.raw))?,
+            Some(Kind::TasBetc) => {
+                let (amount, credit) = tas_rules(record, reports, book)?;
+                let signed = if credit && tas > 1 { -amount } else { amount };
+                tas_sum = Some(tas_sum.unwrap_or(0) + signed);
+            }
+            Some(Kind::Procurement) => {
+                if let Some(amount) = procurement_rules(record, procurements == 1)? {
+                    procurement_sum = Some(procurement_sum.unwrap_or(0) + amount);
+                }
+            }
+            _ => {}
+        }
+    }
+
+    detail.must(tas_sum.is_none_or(|sum| sum == paid as i128), 87, Reason::TasSum)?;
+    detail.must(procurement_sum.is_none_or(|sum| sum == paid), 96, Reason::ProcurementSum)?;
+    detail.must(!reports || tas > 0, 76, Reason::WithoutTas)?;
+    Ok(tas)
+}
+
+/// 01 Detail, with fields ascending over all letters. Gives the amount and whether the payment's location is a CARS Reporter.
+fn detail_rules<'a>(detail: Record<'a>, within: InBatch, book: &Book, payment_ids: &mut HashSet<&'a [u8]>) -> Check<(u128, bool)> {
+    let letter = letter(detail.raw);
+
+    detail.required(23)?;
+    detail.must(payment_ids.insert(detail.field(23)), 23, Reason::Repeats)?;
+    if letter == CHECK {
+        let joined = is_joined(detail.field(23), within.header.field(18), detail.field(58));
+        detail.must(joined, 23, Reason::Unmatched)?;
+    }
+    let paid = detail.amount(24)?;
+    detail.must(amount_in_range(paid, letter, detail.field(25)), 24, Reason::Range)?;
+    if letter == CHECK {
+        detail.listed(25, &VOIDED_OR_NOT)?;
+    }
+    detail.required(26)?;
+    detail.in_book(28, book.payment_types)?;
+    let reports = match letter {
+        CHECK => flag(detail.in_book(29, book.locations)?),
+        _ => within.batch_reports,
+    };
+    if detail.filled(35) {
+        detail.in_book(35, book.states)?;
+    }
+    if detail.filled_not_zeros(36) {
+        detail.digits(36)?;
+    }
+    if detail.filled(38) {
+        detail.in_book(38, book.countries)?;
+    }
+    match letter {
+        WIRE => {
+            detail.routing_number(42)?;
+            detail.listed(44, &BUSINESS_FUNCTIONS)?;
+        }
+        NACHA => {
+            detail.routing_number(43)?;
+            if detail.filled_not_zeros(48) {
+                detail.listed(48, &ACH_TRANSACTIONS)?;
+            }
+        }
+        INTERNATIONAL if detail.filled(51) => detail.listed(51, &PAYER_MECHANISMS)?,
+        _ => {}
+    }
+    if detail.filled(52) {
+        detail.in_book(52, book.currencies)?;
+    }
+    match letter {
+        ADJUSTMENT => {
+            detail.required(54)?;
+            detail.required(55)?;
+            detail.date(56, hyphened_date)?;
+        }
+        CHECK => {
+            let serial = detail.digits(58)?;
+            let first = within.header.digits(19)?;
+            detail.must(serial == first + within.earlier, 58, Reason::Unmatched)?;
+            detail.date(59, plain_date)?;
+        }
+        NACHA => detail.listed(62, &ENTRY_CLASSES)?,
+        _ => {}
+    }
+    Ok((paid, reports))
+}
+
+/// 01 Detail, field 24: above zero, but for checks at most 9,999,999,999 cents, and zero if voided.
+fn amount_in_range(amount: u128, letter: u8, voided: &[u8]) -> bool {
+    match letter {
+        CHECK => amount <= 9_999_999_999 && (voided != VOIDED || amount == 0),
+        _ => amount > 0,
+    }
+}
+
+/// 01 Others: DX.
+fn party_rules(party: Record, letter: u8) -> Check {
+    match letter {
+        ADJUSTMENT => Ok(()),
+        _ => party.required(66),
+    }
+}
+
+/// 01 Others: DT. Gives the amount and whether the BETC is a credit; a blank one is none (01 Sums).
+fn tas_rules(tas: Record, reports: bool, book: &Book) -> Check<(i128, bool)> {
+    if reports {
+        for field in [80, 84, 85, 86] {
+            tas.required(field)?;
+        }
+    }
+    let credit = tas.filled(86) && flag(tas.in_book(86, book.betcs)?);
+    Ok((tas.amount(87)? as i128, credit))
+}
+
+/// 01 Others: DP. None where a payment's only DP leaves the amount blank.
+fn procurement_rules(procurement: Record, only: bool) -> Check<Option<u128>> {
+    if only && !procurement.filled(96) {
+        return Ok(None);
+    }
+    procurement.amount(96).map(Some)
+}
+
+/// 01 Others: BT.
+fn trailer_rules(trailer: Record, batch: &Batch) -> Check {
+    let count = trailer.digits(99)?;
+    trailer.must(count == batch.payments, 99, Reason::Count)?;
+    let total = trailer.amount(100)?;
+    trailer.must(total == batch.total, 100, Reason::Amount)
+}
+
+#[cfg(test)]
+mod tests {
+    use super::*;
+
+    fn put(record: &mut Raw, field: u64, value: &str) {
+        let bytes = &mut record[place(field)];
+        bytes.fill(BLANK);
+        bytes.iter_mut().zip(value.bytes()).for_each(|(byte, ascii)| *byte = ebcdic(ascii));
+    }
+
+    fn record(code: &str, fields: &[(u64, &str)]) -> Raw {
+        let mut record = [BLANK; RECORD];
+        put(&mut record, 1, code);
+        for &(field, value) in fields {
+            put(&mut record, field, value);
+        }
+        record
+    }
+
+    fn cents(cents: u128) -> String {
+        format!("{cents:020}")
+    }
+
+    const PLAIN: &str = "11111111";
+    const REPORTER: &str = "22222222";
+
+    fn section_bytes(kind: u16, entries: &[(&str, usize, &[u8])]) -> Vec<u8> {
+        let mut body = kind.to_le_bytes().to_vec();
+        for &(code, width, flag) in entries {
+            body.extend(format!("{code:<width$}").bytes().map(ebcdic));
+            body.extend(flag);
+        }
+        [&(body.len() as u32).to_le_bytes()[..], &body].concat()
+    }
+
+    fn sections() -> Vec<Vec<u8>> {
+        vec![
+            section_bytes(1, &[("SYSTEM", 40, &[])]),
+            section_bytes(2, &[(PLAIN, 8, &[0]), (REPORTER, 8, &[1])]),
+            section_bytes(3, &[("CREDIT", 8, &[1]), ("DEBIT", 8, &[0])]),
+            section_bytes(4, &[("Vendor", 25, &[])]),
+            section_bytes(5, &[("NY", 2, &[])]),
+            section_bytes(6, &[("US", 2, &[])]),
+            section_bytes(7, &[("EUR", 3, &[]), ("USD", 3, &[])]),
+        ]
+    }
+
+    fn book() -> Vec<u8> {
+        sections().concat()
+    }
+
+    fn header(letter: char, schedule: &str, total: u128) -> Raw {
+        let code = format!("B{letter}");
+        if letter == 'C' {
+            let schedule = "100000000007";
+            #[rustfmt::skip]
+            let fields = [(6, schedule), (15, "1000"), (16, "0"), (17, "20131126"), (18, "1000"), (19, "00000007"), (20, "1113")];
+            return record(&code, &fields);
+        }
+        #[rustfmt::skip]
+        let mut header = record(&code, &[(6, schedule), (7, "000001"), (8, "2013-11-26"), (9, &cents(total)), (10, "215"), (14, PLAIN)]);
+        match letter {
+            'W' => put(&mut header, 12, "121000000"),
+            'N' => put(&mut header, 13, "800000000"),
+            _ => {}
+        }
+        header
+    }
+
+    fn id(letter: char, nth: usize) -> String {
+        match letter {
+            'C' => format!("1000{:08}", 7 + nth),
+            _ => format!("ID{nth}"),
+        }
+    }
+
+    fn detail(letter: char, nth: usize, paid: u128) -> Raw {
+        let fields: &[(u64, &str)] = match letter {
+            'N' => &[(43, "000000000"), (62, "PPD")],
+            'W' => &[(42, "320000000"), (44, "CTR")],
+            'A' => &[(54, "OLD"), (55, "OLD"), (56, "2013-11-26")],
+            'C' => &[(25, "0"), (29, PLAIN), (58, &id(letter, nth)[4..]), (59, "20131126")],
+            _ => &[],
+        };
+        let mut detail = record(&format!("D{letter}"), fields);
+        put(&mut detail, 23, &id(letter, nth));
+        put(&mut detail, 24, &cents(paid));
+        put(&mut detail, 26, "NAME");
+        put(&mut detail, 28, "Vendor");
+        detail
+    }
+
+    fn party(id: &str) -> Raw {
+        record("DX", &[(65, id), (66, "NAME")])
+    }
+
+    fn tas(id: &str, betc: &str, amount: u128) -> Raw {
+        record("DT", &[(77, id), (86, betc), (87, &cents(amount))])
+    }
+
+    fn procurement(id: &str, amount: &str) -> Raw {
+        record("DP", &[(91, id), (96, amount)])
+    }
+
+    fn batch_trailer(count: usize, total: u128) -> Raw {
+        record("BT", &[(99, &format!("{count:08}")), (100, &cents(total))])
+    }
+
+    /// A batch of payments, each an amount and what follows its DX.
+    fn batch(letter: char, schedule: &str, payments: &[(u128, Vec<Raw>)]) -> Vec<Raw> {
+        let total = payments.iter().map(|payment| payment.0).sum();
+        let mut records = vec![header(letter, schedule, total)];
+        for (nth, (paid, others)) in payments.iter().enumerate() {
+            records.extend([detail(letter, nth, *paid), party(&id(letter, nth))]);
+            records.extend(others);
+        }
+        records.push(batch_trailer(payments.len(), total));
+        records
+    }
+
+    /// FH, the batches and FT. The totals are read from the batches, so that a change in a detail is carried.
+    fn file(batches: &[Vec<Raw>]) -> Vec<Raw> {
+        let mut records = vec![record("FH", &[(2, "SYSTEM"), (3, "201")])];
+        records.extend(batches.concat());
+        let details = || records.iter().filter(|record| kind(record) == Some(Kind::Detail));
+        let total = details().map(|detail| amount(layout::of(detail, 24)).unwrap_or(0)).sum();
+        let counts = [format!("{:018}", records.len() + 1), format!("{:018}", details().count())];
+        let trailer = record("FT", &[(103, &counts[0]), (104, &counts[1]), (105, &cents(total))]);
+        records.push(trailer);
+        records
+    }
+
+    /// FH, batch header, detail, DX, BT, FT.
+    fn smallest(letter: char) -> Vec<Raw> {
+        file(&[batch(letter, "S1", &[(12345, vec![])])])
+    }
+
+    const ROOM: usize = 4096;
+
+    fn answer(records: &[Raw]) -> u64 {
+        judge(records.as_flattened(), &book(), &mut [0; ROOM])
+    }
+
+    fn rows(records: &[Raw]) -> Vec<[u64; 8]> {
+        let mut report = [0xEE; ROOM];
+        assert_eq!(judge(records.as_flattened(), &book(), &mut report), 0);
+        let number = |bytes: &[u8; 8]| u64::from_le_bytes(*bytes);
+        let row = |row: &[u8; ROW]| std::array::from_fn(|i| number(&row.as_chunks().0[i]));
+        let all: Vec<[u64; 8]> = report.as_chunks().0.iter().map(row).collect();
+        let (written, rest) = all.split_at(1 + all[0][6] as usize);
+        assert!(rest.as_flattened().iter().all(|&number| number == 0xEEEE_EEEE_EEEE_EEEE));
+        written.to_vec()
+    }
+
+    /// Reason, record and field of the first batch.
+    fn fault(batch: Vec<Raw>) -> [u64; 3] {
+        rows(&file(&[batch]))[1][5..].try_into().unwrap()
+    }
+
+    const SOUND: [u64; 3] = [0; 3];
+
+    /// The smallest batch of a letter, with changes of (record in the batch, field, value).
+    fn changed(letter: char, changes: &[(usize, u64, &str)]) -> [u64; 3] {
+        let mut records = batch(letter, "S1", &[(12345, vec![])]);
+        for &(record, field, value) in changes {
+            put(&mut records[record], field, value);
+        }
+        fault(records)
+    }
+
+    /// 01 Worked examples: the program's output.
+    #[test]
+    fn rows_of_the_smallest_file() {
+        assert_eq!(rows(&smallest('N')), [[0, 0, 6, 1, 0, 12345, 1, 0], [2, 4, 1, 0, 12345, 0, 0, 0]]);
+        for letter in "NCWIA".chars() {
+            assert_eq!(rows(&smallest(letter))[1], [2, 4, 1, 0, 12345, 0, 0, 0], "{letter}");
+        }
+        let mut records = smallest('N');
+        put(&mut records[3], 1, "BT");
+        assert_eq!(answer(&records), 500_004);
+    }
+
+    fn nested(codes: &str) -> Result<(), usize> {
+        let records: Vec<Raw> = codes.split(' ').map(|code| record(code, &[])).collect();
+        nesting(&records)
+    }
+
+    /// 01 Worked examples and Nesting; one ID throughout.
+    #[test]
+    fn nesting_of_codes() {
+        #[rustfmt::skip]
+        let cases = [
+            ("FH BN DN DX BT FT", Ok(())),
+            ("FH BN DN BT", Err(4)),
+            ("FH BN DW", Err(3)),
+            ("FH BN DN DX", Err(5)),
+            ("FH FT", Err(2)),
+            ("FH BN DN DX BT BC", Err(6)),
+            ("FH BC DC DX BT BN", Err(6)),
+            ("FH BC DC DX BT BC DC DX DX DT DP BT FT", Ok(())),
+            ("FH BN DN DX BT BW DW DX BT BI DI DX BT BA DA DX BT FT", Ok(())),
+            ("FH BN DN DX DN DX DT DN DX DP DN DX DT DP BT FT", Ok(())),
+            ("FH BN DN DX BT FT FT", Err(7)),
+            ("FH BN DN DX BT", Err(6)),
+            ("FH BN DN DX FT", Err(5)),
+            ("FH BN BT", Err(3)),
+            ("FH BN DX", Err(3)),
+            ("FH BN DN DT", Err(4)),
+            ("FH BN DN DP", Err(4)),
+            ("FH BN DN DN", Err(4)),
+            ("FH BN DN DX DT DX", Err(6)),
+            ("FH BN DN DX DP DT", Err(6)),
+            ("FH BN DN DX DP DX", Err(6)),
+            ("FH FH", Err(2)),
+            ("FH", Err(2)),
+            ("BN", Err(1)),
+            ("FH Bn", Err(2)),
+        ];
+        for (codes, expected) in cases {
+            assert_eq!(nested(codes), expected, "{codes}");
+        }
+    }
+
+    #[test]
+    fn nesting_of_hundreds() {
+        let many = |code: &str, n| format!("{code} ").repeat(n);
+        assert_eq!(nested(&format!("FH BN DN DX {}{}BT FT", many("DT", 100), many("DP", 100))), Ok(()));
+        assert_eq!(nested(&format!("FH BN DN DX {}BT FT", many("DT", 101))), Err(105));
+        assert_eq!(nested(&format!("FH BN DN DX {}BT FT", many("DP", 101))), Err(105));
+        assert_eq!(nested(&format!("FH BN DN {}BT FT", many("DX", 300))), Ok(()));
+        assert_eq!(
+            nested(&format!("FH BN {}BT FT", format!("DN DX {}", many("DT", 100)).repeat(3))),
+            Ok(())
+        );
+    }
+
+    #[test]
+    fn nesting_of_payment_ids() {
+        for code in ["DX", "DT", "DP"] {
+            let mut records = vec![record("FH", &[]), record("BN", &[]), detail('N', 0, 1), party("ID0")];
+            records.push(record(code, &[(65, "ID1")]));
+            assert_eq!(nesting(&records), Err(5), "{code}");
+        }
+    }
+
+    /// 01 Bytes: the stretches are all but 004's fillers.
+    #[test]
+    fn stretches_leave_out_the_fillers_alone() {
+        for field in layout::FIELDS {
+            let looked_at = stretches(field.kind)
+                .into_iter()
+                .any(|stretch| stretch.contains(&place(field.number).start));
+            assert_eq!(looked_at, !layout::FILLERS.contains(&field.number), "{}", field.number);
+        }
+    }
+
+    #[test]
+    fn low_bytes() {
+        for (index, letter) in (0..6).flat_map(|index| "NC".chars().map(move |letter| (index, letter))) {
+            let sound = smallest(letter);
+            let kind = kind(&sound[index]).unwrap();
+            for at in 22..RECORD {
+                let mut records = sound.clone();
+                records[index][at] = 0x3F;
+                let field = layout::FIELDS
+                    .iter()
+                    .find(|field| field.kind == kind && place(field.number).contains(&at))
+                    .unwrap();
+                let refused = !layout::FILLERS.contains(&field.number);
+                assert_eq!(answer(&records), if refused { 700_001 + index as u64 } else { 0 }, "{index} {at}");
+            }
+        }
+    }
+
+    /// 01 File answers: each, and the order.
+    #[test]
+    fn file_answers() {
+        let judge_bytes = |bytes: &[u8], book: &[u8], room| {
+            let mut report = vec![0xEE; room];
+            let answer = judge(bytes, book, &mut report);
+            assert!(answer == 0 || report.iter().all(|&byte| byte == 0xEE));
+            answer
+        };
+        assert_eq!(judge_bytes(&[], &[], 0), 100_000);
+        assert_eq!(judge_bytes(&[0; 849], &[], 0), 200_000);
+        assert_eq!(judge_bytes(&[0; 850], &[], 0), 400_000);
+        assert_eq!(judge_bytes(&[0; 850], &book(), 0), 500_001);
+        assert_eq!(judge_bytes(&[0; 851], &[], 0), 200_000);
+        assert_eq!(judge_bytes(&vec![0; 65_535 * RECORD], &book(), 0), 500_001);
+        assert_eq!(judge_bytes(&vec![0; 65_536 * RECORD], &[], 0), 300_000);
+        assert_eq!(judge_bytes(&vec![0; 65_536 * RECORD + 1], &[], 0), 200_000);
+
+        // Broken one by one from the table's end: each reason comes before those already there.
+        let mut records = smallest('N');
+        assert_eq!(judge_bytes(records.as_flattened(), &book(), 128), 0);
+        for (record, field, value, expected) in [
+            (5, 105, "00000000000000012346", 1_300_006),
+            (5, 104, "000000000000000002", 1_200_006),
+            (5, 103, "000000000000000005", 1_100_006),
+            (5, 105, "0000000000000012345 ", 1_000_006),
+            (5, 104, "", 1_000_006),
+            (0, 3, "200", 900_001),
+            (0, 2, "SYSTEN", 800_001),
+            (0, 2, "", 800_001),
+        ] {
+            put(&mut records[record], field, value);
+            assert_eq!(judge_bytes(records.as_flattened(), &book(), 128), expected, "{field}");
+        }
+        records[4][2] = 0x3F;
+        assert_eq!(judge_bytes(records.as_flattened(), &book(), 128), 700_005);
+        assert_eq!(judge_bytes(records.as_flattened(), &book(), 127), 600_000);
+        put(&mut records[5], 1, "BT");
+        assert_eq!(judge_bytes(records.as_flattened(), &book(), 127), 500_006);
+        assert_eq!(judge_bytes(records.as_flattened(), &book()[1..], 127), 400_000);
+    }
+
+    /// 01 Code book.
+    #[test]
+    fn code_books() {
+        let sound = |sections: &[Vec<u8>]| Book::read(&sections.concat()).is_some();
+        let with = |kind: usize, bytes: Vec<u8>| {
+            let mut sections = sections();
+            sections[kind - 1] = bytes;
+            sound(&sections)
+        };
+        assert!(sound(&sections()));
+        assert!(sound(&(1..=7).map(|kind| section_bytes(kind, &[])).collect::<Vec<_>>()));
+        assert!(!sound(&[]));
+        assert!(!sound(&sections()[..6]));
+        assert!(!sound(&[sections(), vec![vec![0]]].concat()));
+        assert!(!with(6, section_bytes(5, &[])));
+        assert!(!with(6, vec![0, 0, 0, 0]));
+        assert!(!with(6, vec![1, 0, 0, 0, 6]));
+        assert!(!with(6, vec![3, 0, 0, 0, 6, 0, 0x40]));
+        assert!(!with(7, vec![0xFF, 0xFF, 0xFF, 0xFF, 7, 0]));
+        assert!(!with(5, section_bytes(5, &[("NY", 2, &[]), ("NY", 2, &[])])));
+        assert!(!with(5, section_bytes(5, &[("NY", 2, &[]), ("AL", 2, &[])])));
+        assert!(!with(2, section_bytes(2, &[(PLAIN, 8, &[0]), (PLAIN, 8, &[1])])));
+        assert!(!with(2, section_bytes(2, &[(PLAIN, 8, &[2])])));
+        assert!(with(5, vec![6, 0, 0, 0, 5, 0, 0x00, 0x00, 0x00, 0x01]));
+
+        let of_bytes = |kind: u8, entries: &[u8]| [&(entries.len() as u32 + 2).to_le_bytes()[..], &[kind, 0], entries].concat();
+        let ascending_systems: Vec<u8> = (0..419_000u32).flat_map(|n| [n.to_be_bytes(), [0; 4]].concat().repeat(5)).collect();
+        let of_length = |length: usize| {
+            let states = (length - 42 - ascending_systems.len()) / 2;
+            let states: Vec<u8> = (0..states as u16).flat_map(u16::to_be_bytes).collect();
+            let mut sections: Vec<_> = (1..=7).map(|kind| section_bytes(kind, &[])).collect();
+            sections[0] = of_bytes(1, &ascending_systems);
+            sections[4] = of_bytes(5, &states);
+            assert_eq!(sections.concat().len(), length);
+            sound(&sections)
+        };
+        assert!(of_length(16_777_216));
+        assert!(!of_length(16_777_218));
+    }
+
+    /// 01 Worked examples: dates.
+    #[test]
+    fn dates() {
+        let bytes = |date: &str| -> Vec<u8> { date.bytes().map(ebcdic).collect() };
+        for date in ["2024-02-29", "2000-02-29", "0001-01-01", "9999-12-31", "2023-04-30"] {
+            assert!(hyphened_date(&bytes(date)), "{date}");
+            assert!(plain_date(&bytes(&date.replace('-', ""))), "{date}");
+        }
+        #[rustfmt::skip]
+        let none = ["1900-02-29", "2023-02-29", "0000-01-01", "2023-00-01", "2023-13-01", "2023-01-00", "2023-01-32", "2023-04-31"];
+        for date in none {
+            assert!(!hyphened_date(&bytes(date)), "{date}");
+            assert!(!plain_date(&bytes(&date.replace('-', ""))), "{date}");
+        }
+        assert!(!hyphened_date(&bytes("2023 01-01")));
+        assert!(!hyphened_date(&bytes("2023-01-0A")));
+    }
+
+    /// 01 Worked examples: routing prefixes; the readings: blank, then digits, then the prefix.
+    #[test]
+    fn routing_numbers() {
+        for (letter, record, field) in [('W', 0, 12), ('N', 0, 13), ('W', 1, 42), ('N', 1, 43)] {
+            let reason = |value: &str| {
+                let [reason, at, of] = changed(letter, &[(record, field, value)]);
+                assert!(reason == 0 || (at, of) == (record as u64 + 2, field));
+                reason
+            };
+            for prefix in 0..100 {
+                let listed = prefix <= 12 || (21..=32).contains(&prefix) || (61..=72).contains(&prefix) || prefix == 80;
+                assert_eq!(reason(&format!("{prefix:02}1234567")), if listed { 0 } else { 3 }, "{prefix}");
+            }
+            assert_eq!(["000000000", "", "99000000A", "12100000"].map(reason), [0, 1, 2, 2]);
+        }
+    }
+
+    /// Changes of one field in the smallest batch: letters, record in the batch, field, value, reason.
+    #[rustfmt::skip]
+    const SINGLE_FIELDS: &[(&str, usize, u64, &str, u64)] = &[
+        ("NWIAC", 0, 6, "", 1),
+        ("C", 0, 6, "100000000008", 7),
+        ("C", 0, 6, "10000000000700", 7),
+        ("NWIA", 0, 7, "", 1),
+        ("NWIA", 0, 7, "     1", 2),
+        ("NWIA", 0, 7, "ABCDEF", 0),
+        ("NWIA", 0, 8, "", 1),
+        ("NWIA", 0, 8, "20131126", 5),
+        ("NWIA", 0, 8, "2013-11-31", 5),
+        ("NWIA", 0, 9, "", 1),
+        ("NWIA", 0, 9, "12345", 2),
+        ("NWIA", 0, 9, "00000000000000012346", 14),
+        ("NWIA", 0, 10, "", 1),
+        ("NWIA", 0, 10, "5515", 0),
+        ("NWIA", 0, 10, "0215", 3),
+        ("NWIA", 0, 14, "", 1),
+        ("NWIA", 0, 14, "ABC", 4),
+        ("C", 0, 15, "", 1),
+        ("C", 0, 15, "100", 2),
+        ("C", 0, 16, "", 1),
+        ("C", 0, 16, "1", 3),
+        ("C", 0, 16, "A", 3),
+        ("C", 0, 17, "", 1),
+        ("C", 0, 17, "2013-11-", 5),
+        ("C", 0, 20, "", 1),
+        ("C", 0, 20, "1 13", 2),
+        ("C", 0, 20, "0013", 5),
+        ("C", 0, 20, "1313", 5),
+        ("C", 0, 20, "1200", 0),
+        ("NWIAC", 1, 24, "", 1),
+        ("NWIAC", 1, 24, "12345", 2),
+        ("NWIA", 1, 24, "00000000000000000000", 8),
+        ("C", 1, 24, "00000000010000000000", 8),
+        ("C", 1, 25, "", 1),
+        ("C", 1, 25, "2", 3),
+        ("NWIA", 1, 25, "2", 0),
+        ("NWIAC", 1, 26, "", 1),
+        ("NWIAC", 1, 28, "", 1),
+        ("NWIAC", 1, 28, "VENDOR", 4),
+        ("C", 1, 29, "", 1),
+        ("C", 1, 29, "X", 4),
+        ("NWIA", 1, 29, "X", 0),
+        ("NWIAC", 1, 35, "NY", 0),
+        ("NWIAC", 1, 35, "XX", 4),
+        ("NWIAC", 1, 36, "00000", 0),
+        ("NWIAC", 1, 36, "12345", 0),
+        ("NWIAC", 1, 36, "0000", 2),
+        ("NWIAC", 1, 38, "US", 0),
+        ("NWIAC", 1, 38, "XX", 4),
+        ("W", 1, 44, "", 1),
+        ("W", 1, 44, "DRC", 0),
+        ("W", 1, 44, "ctr", 3),
+        ("NIAC", 1, 44, "XXX", 0),
+        ("N", 1, 48, "", 0),
+        ("N", 1, 48, "00", 0),
+        ("N", 1, 48, "52", 0),
+        ("N", 1, 48, "2 ", 3),
+        ("WIAC", 1, 48, "XX", 0),
+        ("I", 1, 51, "Western Union", 0),
+        ("I", 1, 51, "Electronic", 0),
+        ("I", 1, 51, "Check", 0),
+        ("I", 1, 51, "Checks", 3),
+        ("I", 1, 51, "00000000000000000000", 3),
+        ("NWAC", 1, 51, "X", 0),
+        ("NWIAC", 1, 52, "EUR", 0),
+        ("NWIAC", 1, 52, "XXX", 4),
+        ("A", 1, 54, "", 1),
+        ("A", 1, 55, "", 1),
+        ("A", 1, 56, "", 1),
+        ("A", 1, 56, "2013-1-1", 5),
+        ("C", 1, 59, "", 1),
+        ("C", 1, 59, "20131131", 5),
+        ("N", 1, 62, "", 1),
+        ("N", 1, 62, "CTX", 0),
+        ("N", 1, 62, "WEB", 3),
+        ("WIAC", 1, 62, "WEB", 0),
+        ("NWIC", 2, 66, "", 1),
+        ("A", 2, 66, "", 0),
+        ("NWIAC", 3, 99, "", 1),
+        ("NWIAC", 3, 99, "1", 2),
+        ("NWIAC", 3, 99, "00000002", 13),
+        ("NWIAC", 3, 100, "", 1),
+        ("NWIAC", 3, 100, "12345", 2),
+        ("NWIAC", 3, 100, "00000000000000012346", 14),
+    ];
+
+    #[test]
+    fn single_fields() {
+        for &(letters, record, field, value, reason) in SINGLE_FIELDS {
+            for letter in letters.chars() {
+                let expected = if reason == 0 { SOUND } else { [reason, record as u64 + 2, field] };
+                assert_eq!(changed(letter, &[(record, field, value)]), expected, "{letter} {field} {value}");
+            }
+        }
+    }
+
+    /// 01 Header and Detail: what hangs together in checks.
+    #[test]
+    fn checks() {
+        let symbol = |value: &str| {
+            let joined: &str = &format!("{value:<4}00000007");
+            changed('C', &[(0, 18, value), (0, 6, joined), (1, 23, joined), (2, 65, joined)])
+        };
+        assert_eq!(symbol("0999"), [8, 2, 18]);
+        assert_eq!(symbol("1000"), SOUND);
+        assert_eq!(symbol("9998"), SOUND);
+        assert_eq!(symbol("9999"), [8, 2, 18]);
+        assert_eq!(symbol("100"), [2, 2, 18]);
+        assert_eq!(symbol(""), [1, 2, 18]);
+        assert_eq!(changed('C', &[(0, 19, "0000000A"), (0, 6, "10000000000A")]), [2, 2, 19]);
+
+        assert_eq!(changed('C', &[(1, 58, "00000008")]), [7, 3, 23]);
+        assert_eq!(
+            changed('C', &[(1, 23, "100000000008"), (2, 65, "100000000008"), (1, 58, "00000008")]),
+            [7, 3, 58]
+        );
+        assert_eq!(changed('C', &[(1, 23, "1000"), (2, 65, "1000"), (1, 58, "")]), [1, 3, 58]);
+        assert_eq!(changed('C', &[(1, 25, "1")]), [8, 3, 24]);
+        let zero = cents(0);
+        assert_eq!(changed('C', &[(1, 25, "1"), (1, 24, &zero), (3, 100, &zero)]), SOUND);
+        assert_eq!(changed('C', &[(1, 24, &zero), (3, 100, &zero)]), SOUND);
+
+        let limit = |letter, paid| fault(batch(letter, "S", &[(paid, vec![])]));
+        assert_eq!(limit('C', 9_999_999_999), SOUND);
+        assert_eq!(limit('C', 10_000_000_000), [8, 3, 24]);
+        assert_eq!(limit('W', 10_000_000_000), SOUND);
+
+        assert_eq!(fault(batch('C', "", &[(1, vec![]), (2, vec![]), (3, vec![])])), SOUND);
+        let mut past_eight_digits = batch('C', "", &[(1, vec![]), (2, vec![])]);
+        put(&mut past_eight_digits[0], 19, "99999999");
+        put(&mut past_eight_digits[0], 6, "100099999999");
+        for (record, serial) in [(1, "99999999"), (3, "00000000")] {
+            put(&mut past_eight_digits[record], 23, &format!("1000{serial}"));
+            put(&mut past_eight_digits[record], 58, serial);
+            put(&mut past_eight_digits[record + 1], 65, &format!("1000{serial}"));
+        }
+        assert_eq!(fault(past_eight_digits), [7, 5, 58]);
+    }
+
+    /// 01 Batch reasons 6, over batches rejected and not, and the rows' own numbers and totals.
+    #[test]
+    fn repeats_and_rows() {
+        let sound = batch('N', "S1", &[(100, vec![])]);
+        let mut rejected = batch('W', "S2", &[(20, vec![]), (3, vec![])]);
+        put(&mut rejected[0], 7, "");
+        let mut no_amount = batch('I', "S2", &[(7, vec![]), (9, vec![])]);
+        put(&mut no_amount[1], 24, "7");
+        let other = batch('A', "S3", &[(5, vec![])]);
+        assert_eq!(
+            rows(&file(&[sound, rejected, no_amount, other])),
+            [
+                [0, 0, 22, 6, 0, 137, 4, 0],
+                [2, 4, 1, 0, 100, 0, 0, 0],
+                [6, 6, 2, 0, 23, 1, 6, 7],
+                [12, 6, 2, 0, 9, 6, 12, 6],
+                [18, 4, 1, 0, 5, 0, 0, 0],
+            ]
+        );
+
+        let mut repeated_id = batch('N', "S1", &[(1, vec![]), (2, vec![])]);
+        put(&mut repeated_id[3], 23, "ID0");
+        put(&mut repeated_id[4], 65, "ID0");
+        assert_eq!(fault(repeated_id), [6, 5, 23]);
+        assert_eq!(changed('N', &[(1, 23, ""), (2, 65, "")]), [1, 3, 23]);
+    }
+
+    /// 01 Worked examples: twenty nines plus 1. No field holds that total, so the file is refused; its digits are still exact.
+    #[test]
+    fn totals_past_64_bits() {
+        let nines = 10u128.pow(20) - 1;
+        assert_eq!(split(nines + 1), (10_000_000_000, 0));
+        assert_eq!(
+            rows(&file(&[batch('N', "S", &[(nines, vec![])])]))[1],
+            [2, 4, 1, 9_999_999_999, 9_999_999_999, 0, 0, 0]
+        );
+        assert_eq!(answer(&file(&[batch('N', "S", &[(nines, vec![]), (1, vec![])])])), 1_300_008);
+    }
+
+    /// One payment of 100 with these DT, under a location that is no CARS Reporter.
+    fn with_tas(entries: &[(&str, u128)]) -> [u64; 3] {
+        let others = entries.iter().map(|&(betc, amount)| tas("ID0", betc, amount)).collect();
+        fault(batch('N', "S", &[(100, others)]))
+    }
+
+    /// 01 Worked examples and Sums.
+    #[test]
+    fn tas_sums() {
+        assert_eq!(with_tas(&[("DEBIT", 130), ("CREDIT", 30)]), SOUND);
+        assert_eq!(with_tas(&[("CREDIT", 100)]), SOUND);
+        assert_eq!(with_tas(&[("CREDIT", 50), ("CREDIT", 50)]), [9, 3, 87]);
+        assert_eq!(with_tas(&[("", 60), ("DEBIT", 40)]), SOUND);
+        assert_eq!(with_tas(&[("DEBIT", 99)]), [9, 3, 87]);
+        assert_eq!(with_tas(&[("OTHER", 100)]), [4, 5, 86]);
+        assert_eq!(with_tas(&[("CREDIT", 30), ("DEBIT", 130), ("OTHER", 0)]), [4, 7, 86]);
+    }
+
+    #[test]
+    fn tas_fields() {
+        let with = |letter: char, location: &str, changes: &[(u64, &str)]| {
+            let mut records = batch(letter, "S", &[(100, vec![tas(&id(letter, 0), "DEBIT", 100)])]);
+            match letter {
+                'C' => put(&mut records[1], 29, location),
+                _ => put(&mut records[0], 14, location),
+            }
+            changes.iter().for_each(|&(field, value)| put(&mut records[3], field, value));
+            fault(records)
+        };
+        for letter in "NC".chars() {
+            assert_eq!(with(letter, PLAIN, &[]), SOUND);
+            assert_eq!(with(letter, REPORTER, &[]), [1, 5, 80]);
+            assert_eq!(with(letter, REPORTER, &[(80, "0")]), [1, 5, 84]);
+            assert_eq!(with(letter, REPORTER, &[(80, "0"), (84, "0")]), [1, 5, 85]);
+            assert_eq!(with(letter, REPORTER, &[(80, "0"), (84, "0"), (85, "0")]), SOUND);
+            assert_eq!(with(letter, REPORTER, &[(80, "0"), (84, "0"), (85, "0"), (86, "")]), [1, 5, 86]);
+            assert_eq!(with(letter, PLAIN, &[(87, "")]), [1, 5, 87]);
+            assert_eq!(with(letter, PLAIN, &[(87, "100")]), [2, 5, 87]);
+            assert_eq!(with(letter, PLAIN, &[(88, "1")]), SOUND);
+        }
+        assert_eq!(changed('N', &[(0, 14, REPORTER)]), [11, 3, 76]);
+        assert_eq!(changed('C', &[(1, 29, REPORTER)]), [11, 3, 76]);
+        assert_eq!(changed('C', &[(0, 14, REPORTER)]), SOUND);
+        assert_eq!(changed('N', &[(1, 29, REPORTER)]), SOUND);
+    }
+
+    #[test]
+    fn thousand_tas_in_a_batch() {
+        let payment = |nth, n| (n as u128, (0..n).map(|_| tas(&id('N', nth), "", 1)).collect::<Vec<_>>());
+        let mut payments: Vec<_> = (0..10).map(|nth| payment(nth, 100)).collect();
+        assert_eq!(fault(batch('N', "S", &payments)), SOUND);
+        payments.push(payment(10, 1));
+        let mut over = batch('N', "S", &payments);
+        put(over.last_mut().unwrap(), 99, "");
+        assert_eq!(fault(over), [12, 2, 76]);
+    }
+
+    #[test]
+    fn procurement_sums() {
+        let with = |amounts: &[&str]| {
+            let others = amounts.iter().map(|amount| procurement("ID0", amount)).collect();
+            fault(batch('N', "S", &[(100, others)]))
+        };
+        let (sixty, forty, hundred) = (cents(60), cents(40), cents(100));
+        assert_eq!(with(&[&hundred]), SOUND);
+        assert_eq!(with(&[""]), SOUND);
+        assert_eq!(with(&[&sixty]), [10, 3, 96]);
+        assert_eq!(with(&[&sixty, &forty]), SOUND);
+        assert_eq!(with(&[&sixty, &sixty]), [10, 3, 96]);
+        assert_eq!(with(&[&hundred, ""]), [1, 6, 96]);
+        assert_eq!(with(&["", &hundred]), [1, 5, 96]);
+        assert_eq!(with(&["100"]), [2, 5, 96]);
+    }
+
+    /// 01 Batch reasons, Order.
+    #[test]
+    fn order_within_a_batch() {
+        let id0 = id('N', 0);
+        let others = vec![tas(&id0, "DEBIT", 99), procurement(&id0, &cents(99))];
+        let mut records = batch('N', "S", &[(100, others), (5, vec![])]);
+        put(&mut records[0], 9, &cents(1));
+        put(&mut records[7], 100, &cents(1));
+        put(&mut records[7], 99, "00000009");
+        put(&mut records[5], 26, "");
+        put(&mut records[4], 96, "A");
+        put(&mut records[3], 87, "A");
+        put(&mut records[2], 66, "");
+        put(&mut records[1], 62, "");
+        put(&mut records[1], 24, "");
+        put(&mut records[0], 14, "");
+        put(&mut records[0], 8, "A");
+        // Each row: the first fault, then what mends it.
+        #[rustfmt::skip]
+        let steps: [([u64; 3], usize, u64, &str); 17] = [
+            ([5, 2, 8], 0, 8, "2013-11-26"),
+            ([1, 2, 14], 0, 14, REPORTER),
+            ([1, 3, 24], 1, 24, &cents(100)),
+            ([1, 3, 62], 1, 62, "CCD"),
+            ([1, 4, 66], 2, 66, "NAME"),
+            ([1, 5, 80], 3, 80, "0"),
+            ([1, 5, 84], 3, 84, "0"),
+            ([1, 5, 85], 3, 85, "0"),
+            ([2, 5, 87], 3, 87, &cents(99)),
+            ([2, 6, 96], 4, 96, &cents(99)),
+            ([9, 3, 87], 3, 87, &cents(100)),
+            ([10, 3, 96], 4, 96, &cents(100)),
+            ([1, 7, 26], 5, 26, "NAME"),
+            ([11, 7, 76], 0, 14, PLAIN),
+            ([13, 9, 99], 7, 99, "00000002"),
+            ([14, 9, 100], 7, 100, &cents(105)),
+            ([14, 2, 9], 0, 9, &cents(105)),
+        ];
+        for (expected, record, field, value) in steps {
+            assert_eq!(fault(records.clone()), expected);
+            put(&mut records[record], field, value);
+        }
+        assert_eq!(fault(records), SOUND);
+    }
+}

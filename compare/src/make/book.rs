@@ -1,0 +1,242 @@
+//! Code books (01 Code book): sound ones, and ways to make them unsound.
+
+use super::record::{ebcdic, write_number, BLANK};
+use crate::random::Random;
+
+pub const INPUT_SYSTEMS: usize = 1;
+pub const LOCATIONS: usize = 2;
+pub const BETC: usize = 3;
+pub const PAYMENT_TYPES: usize = 4;
+pub const STATES: usize = 5;
+pub const COUNTRIES: usize = 6;
+pub const CURRENCIES: usize = 7;
+
+/// The widths of the codes of kinds 1 to 7, without their flag.
+pub const WIDTHS: [usize; 7] = [40, 8, 8, 25, 2, 2, 3];
+/// The largest sound book.
+pub const LARGEST: usize = 16_777_216;
+
+const fn has_flag(kind: usize) -> bool {
+    kind == LOCATIONS || kind == BETC
+}
+
+/// Entries, each with its flag if its kind has one, ascending.
+#[derive(Default)]
+pub struct Book([Vec<Vec<u8>>; 7]);
+
+impl Book {
+    /// A code shorter than its kind's width is filled with blanks; one that is there already stays as it is.
+    pub fn add(&mut self, kind: usize, code: &[u8], flag: u8) {
+        let width = WIDTHS[kind - 1];
+        let mut entry = code.to_vec();
+        entry.resize(width, BLANK);
+        let section = &mut self.0[kind - 1];
+        if let Err(place) = section.binary_search_by(|other| other[..width].cmp(&entry)) {
+            entry.extend(has_flag(kind).then_some(flag));
+            section.insert(place, entry);
+        }
+    }
+
+    pub fn add_text(&mut self, kind: usize, code: &str, flag: u8) {
+        let code: Vec<u8> = code.bytes().map(ebcdic).collect();
+        self.add(kind, &code, flag);
+    }
+
+    pub fn write(&self, out: &mut Vec<u8>) {
+        self.parts().iter().for_each(|part| part.write(out));
+    }
+
+    fn parts(&self) -> Vec<Part> {
+        (1..=7).map(|kind| Part::new(kind, self.0[kind - 1].concat())).collect()
+    }
+
+    /// A code that a sound record may hold, and its last byte or flag: no byte below 40 and not blank.
+    pub fn code(&self, kind: usize, flag: Option<u8>, random: &Random) -> Option<(&[u8], u8)> {
+        let (section, width) = (&self.0[kind - 1], WIDTHS[kind - 1]);
+        let fits = |code: &[u8]| code.iter().all(|&byte| byte >= BLANK) && code.iter().any(|&byte| byte != BLANK);
+        let (before, after) = section.split_at(random.index(section.len() + 1));
+        let mut entries = after.iter().chain(before).map(|entry| (&entry[..width], entry[entry.len() - 1]));
+        entries.find(|(code, last)| flag.is_none_or(|flag| flag == *last) && fits(code))
+    }
+
+    /// Fills the book up to `size` bytes: payment types that begin with zero bytes, and a few states for the rest.
+    pub fn write_large(&mut self, size: usize, out: &mut Vec<u8>) {
+        let room = size - self.parts().iter().map(|part| 6 + part.entries.len()).sum::<usize>();
+        let types = room / 25 - 4;
+        let types = types + (room - types * 25) % 2;
+        let mut codes = vec![0; types * 25];
+        for (number, code) in codes.chunks_mut(25).enumerate() {
+            write_number(&mut code[15..], number as u128);
+        }
+        let states = self.0[STATES - 1].len() + (room - types * 25) / 2;
+        for state in 0_u16..200 {
+            if self.0[STATES - 1].len() < states {
+                self.add(STATES, &state.to_be_bytes(), 0);
+            }
+        }
+        let mut parts = self.parts();
+        codes.append(&mut parts[PAYMENT_TYPES - 1].entries);
+        parts[PAYMENT_TYPES - 1] = Part::new(PAYMENT_TYPES, codes);
+        parts.iter().for_each(|part| part.write(out));
+    }
+}
+
+/// One byte a step up or down: the neighbours that a search may mistake for the code.
+pub fn near(code: &mut [u8], random: &Random) {
+    let place = random.index(code.len());
+    code[place] = code[place].wrapping_add(random.pick(&[1, 255]));
+}
+
+pub fn random_book(random: &Random) -> Book {
+    let mut book = Book::default();
+    if random.chance(100) {
+        return book;
+    }
+    let most = random.pick(&[1, 2, 4, 4, 8, 8, 16, 40]) * random.rarely(60, 10, 1);
+    for kind in 1..=7 {
+        if !random.chance(if kind < STATES { 100 } else { 12 }) {
+            random_section(&mut book, kind, most, random);
+        }
+    }
+    book
+}
+
+/// The first two codes are of letters and digits, with flags 0 and 1.
+fn random_section(book: &mut Book, kind: usize, most: u64, random: &Random) {
+    let mut space = [0; 40];
+    let code = &mut space[..WIDTHS[kind - 1]];
+    for number in 0..random.between(1, most) + u64::from(has_flag(kind)) {
+        match random.below(12) {
+            0 if number > 1 => random.fill(code),
+            1 | 2 if number > 1 => random.fill_text(code),
+            3..=6 if number > 1 => near(code, random),
+            _ => {
+                let filled = 1 + random.index(code.len());
+                code.fill(BLANK);
+                code[..filled].fill_with(|| ebcdic(random.pick(b"ABCEFIJMNRSTUXZ0123456789abz")));
+            }
+        }
+        book.add(kind, code, if number < 2 { number } else { random.below(2) } as u8);
+    }
+    if random.chance(25) {
+        book.add(kind, &[], random.below(2) as u8);
+    }
+}
+
+/// A section as written; damage may part its length and kind from its entries.
+#[derive(Clone)]
+struct Part {
+    length: u32,
+    kind: u16,
+    entries: Vec<u8>,
+}
+
+impl Part {
+    fn new(kind: usize, entries: Vec<u8>) -> Part {
+        let (length, kind) = (entries.len() as u32 + 2, kind as u16);
+        Part { length, kind, entries }
+    }
+
+    fn write(&self, out: &mut Vec<u8>) {
+        out.extend_from_slice(&self.length.to_le_bytes());
+        out.extend_from_slice(&self.kind.to_le_bytes());
+        out.extend_from_slice(&self.entries);
+    }
+
+    /// The widths of its codes and of its entries.
+    fn widths(&self) -> (usize, usize) {
+        let kind = usize::from(self.kind).clamp(1, 7);
+        (WIDTHS[kind - 1], WIDTHS[kind - 1] + usize::from(has_flag(kind)))
+    }
+}
+
+#[rustfmt::skip]
+#[derive(Clone, Copy, Debug)]
+pub enum BookDamage {
+    LengthOff, LengthWild, KindWrong, SectionsSwapped, SectionMissing, SectionTwice, SectionAfter, PartOfEntry,
+    CodesEqual, CodesSwapped, FlagWrong, TrailingBytes, Cut, Empty, AnyByte,
+}
+
+use BookDamage::*;
+
+#[rustfmt::skip]
+pub const BOOK_DAMAGES: [BookDamage; 15] = [
+    LengthOff, LengthWild, KindWrong, SectionsSwapped, SectionMissing, SectionTwice, SectionAfter, PartOfEntry,
+    CodesEqual, CodesSwapped, FlagWrong, TrailingBytes, Cut, Empty, AnyByte,
+];
+
+/// Writes the book with these damages, each drawn from its own seed.
+pub fn write_damaged(book: &Book, damages: &[(BookDamage, u64)], out: &mut Vec<u8>) {
+    let mut parts = book.parts();
+    for &(damage, seed) in damages {
+        damage_parts(&mut parts, damage, &Random::new(seed));
+    }
+    parts.iter().for_each(|part| part.write(out));
+    for &(damage, seed) in damages {
+        damage_bytes(out, damage, &Random::new(seed));
+    }
+}
+
+fn damage_parts(parts: &mut Vec<Part>, damage: BookDamage, random: &Random) {
+    let (at, other) = (random.index(parts.len()), random.index(parts.len()));
+    let several = parts.len() > 1;
+    let part = &mut parts[at];
+    let (_, width) = part.widths();
+    match damage {
+        LengthOff => {
+            let step = random.pick(&[1, 2, 6, width as u32, random.below(50) as u32]);
+            part.length = random.rarely(2, part.length.wrapping_add(step), part.length.wrapping_sub(step));
+        }
+        LengthWild => part.length = random.pick(&[0, 1, u32::MAX, u32::MAX - 3, 1 << 31, part.length ^ (1 << 24), random.draw() as u32]),
+        KindWrong => part.kind = random.pick(&[0, 8, part.kind ^ 1, part.kind + 1, part.kind ^ 256, random.draw() as u16]),
+        SectionsSwapped => parts.swap(at, other),
+        SectionMissing if several => drop(parts.remove(at)),
+        SectionTwice => parts.insert(at, parts[at].clone()),
+        SectionAfter => parts.push(Part::new(random.pick(&[0, 1, 7, 8]), Vec::new())),
+        PartOfEntry => {
+            let extra = 1 + random.index(width - 1);
+            part.entries.resize(part.entries.len() + extra, 0xFF);
+            part.length += extra as u32;
+        }
+        CodesEqual | CodesSwapped | FlagWrong => {
+            // The first section from there on that has the entries the damage asks for.
+            let _ = (at..parts.len())
+                .chain(0..at)
+                .find(|&at| damage_entries(&mut parts[at], damage, random));
+        }
+        _ => {}
+    }
+}
+
+fn damage_entries(part: &mut Part, damage: BookDamage, random: &Random) -> bool {
+    let (code, width) = part.widths();
+    let count = part.entries.len() / width;
+    match damage {
+        FlagWrong if code < width && count > 0 => part.entries[random.index(count) * width + code] = random.pick(&[2, 255, 0xF0, 0xF1]),
+        CodesEqual | CodesSwapped if count > 1 => {
+            let start = random.index(count - 1) * width;
+            let (left, right) = part.entries[start..start + 2 * width].split_at_mut(width);
+            match damage {
+                CodesEqual => right[..code].copy_from_slice(&left[..code]),
+                _ => left.swap_with_slice(right),
+            }
+        }
+        _ => return false,
+    }
+    true
+}
+
+fn damage_bytes(book: &mut Vec<u8>, damage: BookDamage, random: &Random) {
+    let at = random.index(book.len());
+    match damage {
+        TrailingBytes => book.extend((0..random.pick(&[1, 1, 2, 5, 6, 7])).map(|_| random.byte(0, 3))),
+        Cut => {
+            let cut = random.pick(&[1, 1, 2, 3, 6, at]);
+            book.truncate(book.len().saturating_sub(cut));
+        }
+        Empty => book.clear(),
+        // Harmless in a code, which may hold any byte.
+        AnyByte if !book.is_empty() => book[at] = random.byte(0, 255),
+        _ => {}
+    }
+}

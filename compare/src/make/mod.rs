@@ -1,0 +1,189 @@
+//! Inputs for the judges, each from one seed: a code book, a file and a report space.
+
+pub mod book;
+pub mod damage;
+pub mod fields;
+pub mod record;
+pub mod sound;
+
+use std::collections::HashSet;
+use std::fmt::Write;
+
+use crate::layout::{FIELDS, RECORD};
+use crate::random::{mix, Random};
+use book::{random_book, write_damaged, Book, BookDamage, LARGEST};
+use damage::{Damage, Planned, Target, When};
+use sound::{Batch, Place, Style, Writer};
+
+/// What may be left out of a recipe; a header stands for its batch, a detail for its payment.
+#[derive(Clone, Copy, PartialEq, Eq, Hash)]
+pub enum Piece {
+    Damage(usize),
+    Record(Place),
+}
+
+/// All that is drawn for one input.
+pub struct Recipe {
+    seed: u64,
+    style: Style,
+    batches: Vec<Batch>,
+    damages: Vec<Planned>,
+    /// Any bytes in place of the records.
+    any_bytes: Option<usize>,
+    large_book: Option<usize>,
+    /// Bytes of report more, or fewer, than the 64 × (1 + batches) that 01 asks for.
+    report_beside: isize,
+}
+
+#[derive(Default)]
+pub struct Input {
+    pub file: Vec<u8>,
+    pub book: Vec<u8>,
+    pub report: Vec<u8>,
+    places: Vec<Place>,
+}
+
+/// Inputs about the limits of 65,535 records and 16,777,216 bytes of book: last four bits of the seed, index modulo 20,000.
+const LARGE: [(u64, u64); 4] = [(1, 777), (2, 5_555), (3, 10_777), (4, 15_555)];
+
+/// The seed of input `index`.
+pub fn input_seed(seed: u64, index: u64) -> u64 {
+    let large = LARGE.iter().find(|(_, place)| index % 20_000 == *place);
+    mix(mix(seed) ^ index) << 4 | large.map_or(0, |(bits, _)| *bits)
+}
+
+impl Recipe {
+    pub fn new(seed: u64) -> Recipe {
+        let random = &Random::new(mix(seed));
+        let large = seed % 16;
+        let (batches, large_book) = match large {
+            1 => (vec![sound::plan_many_parties(65_535, random)], None),
+            3 => (vec![sound::plan_many_parties(65_536 + random.index(2), random)], None),
+            2 => (sound::plan(random), Some(LARGEST)),
+            4 => (sound::plan(random), Some(LARGEST + 1)),
+            _ => (sound::plan(random), None),
+        };
+        let style = Style::new(&batches, random);
+        let damages = match large {
+            0 => damage::plan(&batches, random),
+            3 => vec![damage::plan_before_limit(random)],
+            _ => Vec::new(),
+        };
+        let bytes = random.pick(&[0, 1, 849, RECORD, 851, 2 * RECORD, random.index(3_000)]);
+        let any_bytes = random.chance(250).then_some(bytes);
+        let report_beside = match random.below(24) {
+            0 => -1,
+            1 => random.pick(&[-8, -63, -64, -65, isize::MIN / 2]),
+            2..=9 => 0,
+            10 => 4_096,
+            _ => random.index(200) as isize,
+        };
+        Recipe {
+            seed,
+            style,
+            batches,
+            damages,
+            any_bytes,
+            large_book,
+            report_beside,
+        }
+    }
+
+    pub fn pieces(&self) -> Vec<Piece> {
+        let mut pieces: Vec<_> = (0..self.damages.len()).map(Piece::Damage).collect();
+        let mut records: Vec<_> = (0..self.batches.len()).map(Place::Header).collect();
+        for (batch, plan) in self.batches.iter().enumerate() {
+            records.extend((0..plan.payments.len()).map(|payment| Place::Detail(batch, payment)));
+            for (payment, plan) in plan.payments.iter().enumerate() {
+                records.extend((0..plan.ends().2).map(|sub| Place::Sub(batch, payment, sub)));
+            }
+        }
+        pieces.extend(records.into_iter().map(Piece::Record));
+        pieces
+    }
+
+    /// Makes the input but for the dropped pieces.
+    pub fn make(&self, dropped: &HashSet<Piece>, input: &mut Input) {
+        let random = &Random::new(!self.seed);
+        input.file.clear();
+        input.places.clear();
+        let mut book = random_book(random);
+        self.make_file(&book, dropped, random, input);
+        input.book.clear();
+        match self.large_book {
+            Some(size) => book.write_large(size, &mut input.book),
+            None => write_damaged(&book, &self.book_damages(dropped), &mut input.book),
+        }
+        let batches = input.places.iter().filter(|place| matches!(place, Place::Header(_))).count();
+        let size = (64 * (1 + batches) as isize + self.report_beside).max(0);
+        input.report.resize(size as usize, 0);
+        random.fill(&mut input.report);
+    }
+
+    fn make_file(&self, book: &Book, dropped: &HashSet<Piece>, random: &Random, input: &mut Input) {
+        let style = &self.style;
+        Writer {
+            style,
+            book,
+            dropped,
+            input,
+        }
+        .write(&self.batches, random);
+        for when in [When::BeforeTotals, When::AfterTotals, When::AtTheEnd] {
+            if when == When::AfterTotals {
+                record::finish(&mut input.file);
+            }
+            let damages = self.kept(dropped).filter(|planned| planned.when == when);
+            damages.for_each(|planned| Target { input, book }.apply(planned));
+        }
+        if let Some(length) = self.any_bytes {
+            input.file.resize(length, 0);
+            random.fill(&mut input.file);
+        }
+    }
+
+    fn book_damages(&self, dropped: &HashSet<Piece>) -> Vec<(BookDamage, u64)> {
+        let of_book = |planned: &Planned| match planned.damage {
+            Damage::Book(damage) => Some((damage, planned.seed)),
+            _ => None,
+        };
+        self.kept(dropped).filter_map(of_book).collect()
+    }
+
+    fn kept<'a>(&'a self, dropped: &'a HashSet<Piece>) -> impl Iterator<Item = &'a Planned> {
+        let stays = |number: &usize| !dropped.contains(&Piece::Damage(*number));
+        (0..self.damages.len()).filter(stays).map(|number| &self.damages[number])
+    }
+
+    /// The recipe in words, but for the dropped pieces; batches, payments and other records are numbered from 0.
+    pub fn describe(&self, dropped: &HashSet<Piece>) -> String {
+        let (bytes, book, beside) = (self.any_bytes, self.large_book, self.report_beside);
+        let mut text = format!("any bytes instead: {bytes:?}, large book: {book:?}, report beside what is asked: {beside}\n");
+        let _ = writeln!(text, "{:?}", self.style);
+        let stays = |place| !dropped.contains(&Piece::Record(place));
+        let batches = self.batches.iter().enumerate();
+        for (batch, Batch { letter, payments, .. }) in batches.filter(|(batch, _)| stays(Place::Header(*batch))) {
+            let payments = payments.iter().enumerate();
+            for (payment, plan) in payments.filter(|(payment, _)| stays(Place::Detail(batch, *payment))) {
+                let stays = |sub: &usize| stays(Place::Sub(batch, payment, *sub));
+                let (parties, tas, subs) = plan.ends();
+                let counts = [0..parties, parties..tas, tas..subs].map(|subs| subs.filter(stays).count());
+                let _ = writeln!(
+                    text,
+                    "B{letter} {batch}, payment {payment}: {counts:?} DX, DT, DP, reporter: {}",
+                    plan.reporter
+                );
+            }
+        }
+        for Planned { damage, when, .. } in self.kept(dropped) {
+            let _ = match damage {
+                Damage::Field(place, field, way, joined) => {
+                    let name = FIELDS[*field as usize - 1].name;
+                    writeln!(text, "{when:?}: {place:?}, field {field} {name}: {way:?}, joined: {joined}")
+                }
+                _ => writeln!(text, "{when:?}: {damage:?}"),
+            };
+        }
+        text
+    }
+}

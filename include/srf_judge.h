@@ -1,0 +1,141 @@
+/* A judge of Standard Reporting Format (SRF 2.0.1) files, for C99 and C++.
+ *
+ * Link target/staticlib/libjudge.a (x86-64), which `rt staticlib judge` writes:
+ *
+ *     cc -I include CLIENT.c target/staticlib/libjudge.a
+ *
+ * A whole use, for a file and a code book that stand in memory:
+ *
+ *     uint8_t *report = malloc(SRF_REPORT_SIZE(file_size));
+ *     uint64_t answer = srf_judge(file, file_size, book, book_size, report, SRF_REPORT_SIZE(file_size));
+ *     if (answer != 0)
+ *         refuse(SRF_REASON(answer), SRF_RECORD(answer));
+ *     else
+ *         for (size_t row = 1; row <= srf_report_number(report, 0, SRF_HEAD_BATCHES); row++)
+ *             if (srf_report_number(report, row, SRF_BATCH_REASON) != SRF_SOUND)
+ *                 reject(srf_report_number(report, row, SRF_BATCH_FIRST));
+ *
+ * "01" below is the bureau's paper with the rules, "004" the published format with its fields and their numbers.
+ */
+#ifndef SRF_JUDGE_H
+#define SRF_JUDGE_H
+
+#include <stddef.h>
+#include <stdint.h>
+
+#ifdef __cplusplus
+extern "C" {
+#endif
+
+/* Judges a file with a code book.
+ *
+ * Lent: the file, the book and the report, each by its first byte and its size in bytes. Any bytes of any size pass, and none has to be
+ * aligned: a file too long, a damaged book or a report too small draws an answer and does no harm. No pointer may be null: an empty space
+ * is passed as any pointer that is not null, with size 0. The report may not overlap the file or the book; these two may overlap. Nobody
+ * may write to the file or the book during the call, or read or write the report.
+ *
+ * Returned: 0 where the file is accepted, else reason * 100,000 + record (SRF_REASON, SRF_RECORD).
+ *
+ * Written: on 0, the head and then a row for each batch in file order, from the report's start; the bytes past the last row stay as they
+ * were. On any other answer the whole report stays as it was.
+ *
+ * Threads: nothing is kept between calls and there is no global state. Any number of threads may call at once, also with one file and
+ * one book, if their reports do not overlap.
+ *
+ * Space: no heap, no system calls, at most 8 KB of stack. Of the C library it needs memcpy and memset. In threads with little stack
+ * have them bound when the program starts (-Wl,-z,now): bound at first use, the dynamic linker takes some 3 KB of stack more.
+ *
+ * Time: about linear; the longest file takes a tenth of a second. Schedule numbers that do not ascend in file order cost a walk over the
+ * earlier records each, as do Payment IDs made to share one hash: at worst, the longest file takes some seconds.
+ */
+uint64_t srf_judge(const uint8_t *file, size_t file_size, const uint8_t *book, size_t book_size, uint8_t *report, size_t report_size);
+
+/* Why a file is refused (01 File answers). The tests are made in this order, and the first that applies is given. In brackets: the record
+ * that the answer names, counted from 1; 0 where none is meant. */
+enum srf_file_reason {
+    SRF_ACCEPTED = 0,           /* accepted [0] */
+    SRF_FILE_EMPTY = 1,         /* length 0 [0] */
+    SRF_FILE_LENGTH = 2,        /* length no multiple of 850 [0] */
+    SRF_FILE_TOO_LONG = 3,      /* more than 65,535 records [0] */
+    SRF_BOOK_UNSOUND = 4,       /* code book unsound [0] */
+    SRF_NESTING = 5,            /* nesting [the first that begins no legal file, or last + 1] */
+    SRF_REPORT_TOO_SHORT = 6,   /* report shorter than 64 * (1 + batches) bytes [0] */
+    SRF_LOW_BYTE = 7,           /* a byte below hex 40 outside fillers [the first with one] */
+    SRF_INPUT_SYSTEM = 8,       /* InputSystem blank or not in the book [1] */
+    SRF_VERSION = 9,            /* version not 201 [1] */
+    SRF_TRAILER_NON_DIGIT = 10, /* a number in FT with a non-digit [last] */
+    SRF_TRAILER_RECORDS = 11,   /* TotalCount_Records is not the record count [last] */
+    SRF_TRAILER_PAYMENTS = 12,  /* TotalCount is not the detail count [last] */
+    SRF_TRAILER_AMOUNT = 13     /* TotalAmount is not the sum of details [last] */
+};
+
+#define SRF_REASON(answer) ((answer) / 100000)
+#define SRF_RECORD(answer) ((answer) % 100000)
+
+/* Why a batch is rejected (01 Batch reasons). The row names the record and the 004 field at fault. */
+enum srf_batch_reason {
+    SRF_SOUND = 0,
+    SRF_BLANK = 1,              /* required, but all blank */
+    SRF_BADLY_SHAPED = 2,       /* badly shaped: a non-digit, or a blank in field 7 */
+    SRF_NOT_LISTED = 3,         /* not a listed value */
+    SRF_NOT_IN_BOOK = 4,        /* not in the code book */
+    SRF_NOT_A_DATE = 5,         /* not a date */
+    SRF_REPEATED = 6,           /* repeats an earlier batch number in the file, or Payment ID in the batch */
+    SRF_MISMATCH = 7,           /* does not match check symbol or serial */
+    SRF_OUT_OF_RANGE = 8,       /* amount or symbol outside its range */
+    SRF_ACCOUNT_SUM = 9,        /* TAS/BETC sum differs; the detail's record, field 87 */
+    SRF_PROCUREMENT_SUM = 10,   /* procurement sum differs; the detail's record, field 96 */
+    SRF_ACCOUNT_MISSING = 11,   /* CARS Reporter, payment without DT; the detail's record, field 76 */
+    SRF_TOO_MANY_ACCOUNTS = 12, /* more than 1,000 TAS/BETC in the batch; the header's record, field 76 */
+    SRF_COUNT_DIFFERS = 13,     /* count differs */
+    SRF_AMOUNT_DIFFERS = 14     /* amount differs */
+};
+
+/* The report (01 Report) is rows of eight 8-byte little-endian numbers. Row 0 is the head; its columns 0, 1 and 7 hold 0. A total is
+ * div * 10^10 + mod cents and may pass 64 bits. Rejected batches count in the head. */
+enum srf_head_column {
+    SRF_HEAD_RECORDS = 2,
+    SRF_HEAD_PAYMENTS = 3,
+    SRF_HEAD_TOTAL_DIV = 4,
+    SRF_HEAD_TOTAL_MOD = 5,
+    SRF_HEAD_BATCHES = 6
+};
+
+/* Row n, from 1 on, is the file's n-th batch. Its last three columns hold 0 where the batch is sound. */
+enum srf_batch_column {
+    SRF_BATCH_FIRST = 0, /* the number of its first record */
+    SRF_BATCH_RECORDS = 1,
+    SRF_BATCH_PAYMENTS = 2,
+    SRF_BATCH_TOTAL_DIV = 3,
+    SRF_BATCH_TOTAL_MOD = 4,
+    SRF_BATCH_REASON = 5,
+    SRF_BATCH_FAULT_RECORD = 6,
+    SRF_BATCH_FAULT_FIELD = 7
+};
+
+#define SRF_RECORD_SIZE 850
+#define SRF_MOST_RECORDS 65535
+#define SRF_ROW_SIZE 64
+
+/* A report size that is enough for every file of this size: at most 1,048,576 bytes. A batch has four records or more (01 Nesting: header,
+ * detail, DX, BT), and a file of more than 65,535 records is refused. The argument is evaluated twice. */
+#define SRF_REPORT_SIZE(file_size) \
+    ((size_t)SRF_ROW_SIZE * \
+     (1 + ((file_size) / SRF_RECORD_SIZE < SRF_MOST_RECORDS ? (file_size) / SRF_RECORD_SIZE : SRF_MOST_RECORDS) / 4))
+
+/* A number of the report of an accepted file. */
+static inline uint64_t srf_report_number(const uint8_t *report, size_t row, unsigned column)
+{
+    const uint8_t *low = report + row * SRF_ROW_SIZE + column * 8;
+    uint64_t number = 0;
+    int i;
+    for (i = 7; i >= 0; i--)
+        number = number << 8 | low[i];
+    return number;
+}
+
+#ifdef __cplusplus
+}
+#endif
+
+#endif
