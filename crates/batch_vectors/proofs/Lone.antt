@@ -6,7 +6,6 @@ use Prim.Native.Nat.{ℕ, _+_, _*_, _/_, _-_, _≤_}
 use native.Mathlib.Omega.{arith}
 use lib.ListN.{length, take, drop, length-drop, length-append}
 use lib.Seq.{length-take-le}
-use Rattle.nesting.specs.declared.Verdict.{Verdict}
 use Rattle.nesting.specs.declared.Verdict.the-variants.{Legal}
 use Rattle.nesting.specs.Division.{All, Batch, Division, LegalBatch, DivisionOf, batchLines}
 use Rattle.nesting.specs.Records.{records, Cuttable}
@@ -15,6 +14,9 @@ use Rattle.nesting.specs.Promise.Nested.{legal}
 use Rattle.nesting.proofs.Cuts.{cut-length}
 use Rattle.nesting.proofs.Parts.{batch-between, batch-part}
 use Rattle.batch.specs.Batch.{Judgeable}
+use Rattle.survey.specs.declared.Survey.{Survey}
+use Rattle.survey.specs.Survey.{Surveyed}
+use Rattle.survey.proofs.Theorems.{nested}
 
 -- the bytes between FH and FT
 abbrev pub between : List ℕ → List ℕ
@@ -59,16 +61,16 @@ only f w d h (b ∷ c ∷ bs) e l g = absurd (omega arith)
 divided : (f : List ℕ) (n k : ℕ) → Cuttable f → Nested (records f) (Legal n k) → n ≡ 1 → Lone f
 divided f n k w (legal d h) l = only f w d h (d .batches) refl l (h .legal .batches)
 
-lone : (f : List ℕ) (v : Verdict) (n k : ℕ) → Cuttable f → Nested (records f) v → v ≡ Legal n k → n ≡ 1 → Lone f
-lone f v n k w t e l = divided f n k w (rw (← e) t) l
+lone : (f : List ℕ) (s : Survey) (n k : ℕ) → Cuttable f → Surveyed f s → s .nested ≡ Legal n k → n ≡ 1 → Lone f
+lone f s n k w t e l = divided f n k w (rw (← e) (nested f s t)) l
 
 -- in the words of the bounds that the part's ends ask for
-module _ (f : List ℕ) (v : Verdict) (n k : ℕ) (w : Cuttable f) (t : Nested (records f) v) (e : v ≡ Legal n k) (l : n ≡ 1) where
+module _ (f : List ℕ) (s : Survey) (n k : ℕ) (w : Cuttable f) (t : Surveyed f s) (e : s .nested ≡ Legal n k) (l : n ≡ 1) where
   pub lone-start : 850 ≤ length f
-  lone-start = omega (arith, lone f v n k w t e l .room)
+  lone-start = omega (arith, lone f s n k w t e l .room)
 
   pub lone-end : 850 ≤ length f - 850
-  lone-end = omega (arith, lone f v n k w t e l .room)
+  lone-end = omega (arith, lone f s n k w t e l .room)
 
   pub lone-judgeable : Judgeable 2 (between f)
-  lone-judgeable = lone f v n k w t e l .judgeable
+  lone-judgeable = lone f s n k w t e l .judgeable

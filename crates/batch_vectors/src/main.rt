@@ -61,8 +61,9 @@ fn show_batch(book: &[u8], shelves: Book, part: &[u8], repeats: bool)
 fn show_file(book: &[u8], shelves: Book, file: &[u8], repeats: bool)
     requires { ⌜ Usable (now book) shelves × Cuttable (now file) ⌝ }
 {
-    let verdict = nesting::nesting(file);
-    match verdict {
+    let found = survey::survey_file(file);
+    let nested = found.nested;
+    match nested {
         Verdict::Legal(batches, _) => {
             if batches == 1 {
                 let end = file.len() - 850;

@@ -1,3 +1,2 @@
 mod Stretches
-mod Turns
 pub mod Unique

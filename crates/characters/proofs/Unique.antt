@@ -2,7 +2,7 @@
 -- Assumes nothing.
 use mathlib.Core.Path.{sym, _∙_}
 use Rattle.record.proofs.Unique.{OneResult}
-use Rattle.characters.proofs.first_unclean.Reads as first-unclean
+use Rattle.characters.proofs.is_clean.Reads as is-clean
 
-pub first-unclean-unique : OneResult first-unclean.Post
-first-unclean-unique κs a r s x y p q = p ∙ sym q
+pub is-clean-unique : OneResult is-clean.Post
+is-clean-unique κs a r s x y p q = p ∙ sym q

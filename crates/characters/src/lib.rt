@@ -1,16 +1,15 @@
-// Bytes below hex 40 outside fillers (01 Bytes): one pass over the file. Fields between two fillers are looked at as one stretch.
+// Bytes below hex 40 outside fillers (01 Bytes). Fields between two fillers are looked at as one stretch.
 use record::Field;
 use record::Line;
 use record::codes::Code;
-use record::codes::code_of;
 ghost use mathlib.Core.Path.{_≡_};
 ghost use Prim.Native.Nat.{_≤_};
 ghost use lib.ListN.{length};
 ghost use Rattle.record.specs.Value.{seen};
+ghost use Rattle.record.specs.Codes.{codeOf};
 ghost use Rattle.record.specs.Layout.{layout};
 ghost use Rattle.record.specs.Layout.Record.{BatchHeader};
-ghost use Rattle.nesting.specs.Records.{Cuttable, records};
-ghost use Rattle.characters.specs.Characters.{cleanIn, clean, firstUnclean};
+ghost use Rattle.characters.specs.Characters.{cleanIn, clean};
 
 // Fields 1 to 3.
 const FILE_HEADER: Field = Field {
@@ -77,12 +76,11 @@ fn is_clean_header(rec: &[u8], line: Line) -> bool
     record::field_valid(rec, line, BATCH_HEADER_BACK)
 }
 
-// No byte of the record is below hex 40 outside its fillers.
-fn is_clean(rec: &[u8], line: Line) -> bool
-    requires { ⌜ 850 ≤ length (now rec) ⌝ }
+// No byte of the record, which has this code, is below hex 40 outside its fillers.
+pub fn is_clean(rec: &[u8], line: Line, code: Code) -> bool
+    requires { ⌜ (850 ≤ length (now rec)) × (code ≡ codeOf (seen line (now rec))) ⌝ }
     ensures { λ r. ⌜ r ≡ clean (seen line (now (rec .entry))) ⌝ }
 {
-    let code = code_of(rec, line);
     match code {
         Code::FileHeader => record::field_valid(rec, line, FILE_HEADER),
         Code::Batch(_) => is_clean_header(rec, line),
@@ -94,23 +92,4 @@ fn is_clean(rec: &[u8], line: Line) -> bool
         Code::FileTrailer => record::field_valid(rec, line, FILE_TRAILER),
         Code::Unknown => true,
     }
-}
-
-// The number of the first record with a byte below hex 40 outside its fillers (01 File answers, 7), or 0.
-pub fn first_unclean(file: &[u8]) -> usize
-    requires { ⌜ Cuttable (now file) ⌝ }
-    ensures { λ r. ⌜ r ≡ firstUnclean 1 (records (now (file .entry))) ⌝ }
-{
-    let mut number: usize = 1;
-    let mut at: usize = 0;
-    while at < file.len() {
-        let end = at + 850;
-        let rec = &file[at..end];
-        if !is_clean(rec, Line { number }) {
-            return number;
-        }
-        number += 1;
-        at = end;
-    }
-    0
 }

@@ -23,6 +23,16 @@ use Rattle.verdict.proofs.Numbers.{one-reason}
 use Rattle.judge.specs.Judged.{Judged}
 use Rattle.judge.proofs.Ready.{not-zero}
 
+-- a reason that applies, and before which none does, is the one given
+module _ (file book : List ℕ) (room : ℕ) (j : Reason) (holds : Applies file book room j) (before : (i : Reason) → Applies file book room i → numberOf i < numberOf j → ⊥) where
+  the-first : (k : Reason) (m : ℕ) → Refused file book room k m → k ≡ j
+  the-first k m r = go (ltb (numberOf k) (numberOf j)) (ltb (numberOf j) (numberOf k)) refl refl
+    where
+      go : (s t : Bool) → ltb (numberOf k) (numberOf j) ≡ s → ltb (numberOf j) (numberOf k) ≡ t → k ≡ j
+      go true t e f = absurd (before k (r .applies) (ltb-true _ _ e))
+      go false true e f = absurd (r .first j (ltb-true _ _ f) holds)
+      go false false e f = one-reason k j (omega (arith, ltb-false (numberOf k) (numberOf j) e, ltb-false (numberOf j) (numberOf k) f))
+
 -- the record named has a number of five digits
 choose-small : (t : Bool) (a b n : ℕ) → a ≤ n → b ≤ n → choose t a b ≤ n
 unfolding choose
@@ -60,19 +70,17 @@ module _ (file book : List ℕ) (w : Cuttable file) where
     pub is : answer ≡ 500000 + at
     pub named : RefusedAt (records file) at
 
-  -- a reason whose number is 5, with its record
-  told : (room : ℕ) (k : Reason) (m : ℕ) → Refused file book room k m → numberOf k ≡ 5 → ForNesting (numberOf k * 100000 + m)
+  -- nesting, with its record
+  told : (room : ℕ) (k : Reason) (m : ℕ) → Refused file book room k m → k ≡ Reason.Nesting → ForNesting (numberOf k * 100000 + m)
   unfolding numberOf
-  told room k m r e = go (one-reason k Reason.Nesting e) (r .names)
-    where
-      go : k ≡ Reason.Nesting → Names file book room k m → ForNesting (numberOf k * 100000 + m)
-      go q n = record { at = m; is = omega (arith, e); named = rw q at n }
+  told room k m r q = record { at = m; is = rw q (omega arith); named = rw q at r .names }
 
   -- a number from 500,000 on and below 600,000 names the record at which no legal file is begun
   pub nesting-named : (report after : List ℕ) (answer : ℕ) → Judged file book report answer after → 500000 ≤ answer → answer < 600000 → ForNesting answer
+  unfolding numberOf
   nesting-named report after answer (Judged.refused k m r) h l =
       let s = named-small (length report) k m (r .names) in
-      told (length report) k m r (omega (arith, s))
+      told (length report) k m r (one-reason k Reason.Nesting (omega (arith, s)))
   nesting-named report after answer (Judged.accepted n c l d g) h k = absurd (omega arith)
 
   -- so it is given only where no legal division exists
@@ -97,17 +105,9 @@ module _ (file book : List ℕ) (w : Cuttable file) where
     later room Reason.PaymentCount a h = omega arith
     later room Reason.TotalAmount a h = omega arith
 
-    five : (room : ℕ) (k : Reason) (m : ℕ) → Refused file book room k m → numberOf k ≡ 5
-    unfolding numberOf
-    five room k m r = go (ltb (numberOf k) 5) (ltb 5 (numberOf k)) refl refl
-      where
-        go : (s t : Bool) → ltb (numberOf k) 5 ≡ s → ltb 5 (numberOf k) ≡ t → numberOf k ≡ 5
-        go true t e f = absurd (later room k (r .applies) (ltb-true _ _ e))
-        go false true e f = absurd (r .first Reason.Nesting (ltb-true _ _ f) none)
-        go false false e f = omega (arith, ltb-false (numberOf k) 5 e, ltb-false 5 (numberOf k) f)
-
     pub undivided-refused : (report after : List ℕ) (answer : ℕ) → Judged file book report answer after → ForNesting answer
-    undivided-refused report after answer (Judged.refused k m r) = told (length report) k m r (five (length report) k m r)
+    unfolding numberOf
+    undivided-refused report after answer (Judged.refused k m r) = told (length report) k m r (the-first file book (length report) Reason.Nesting none (later (length report)) k m r)
     undivided-refused report after answer (Judged.accepted n x l d g) = absurd (none (d, g))
 
 -- an accepted file's trailer has the numbers of all its batches, whatever their rows say: rejected batches count in 11 to 13
@@ -136,36 +136,28 @@ accepted-counts file book report after answer (Judged.accepted n c l x g) z d h 
 -- a file of whole records that is longer than 65,535 of them is answered 3, whatever the book and the report; and there is one, so that no
 -- answer is without an input (the program `examples` has inputs for the others)
 module _ (file book : List ℕ) (whole : length file % 850 ≡ 0) (long : 65535 * 850 < length file) where
-  third : (room : ℕ) (k : Reason) (m : ℕ) → Refused file book room k m → (s t : Bool) → ltb (numberOf k) 3 ≡ s → ltb 3 (numberOf k) ≡ t → numberOf k ≡ 3
+  sooner : (room : ℕ) (j : Reason) → Applies file book room j → numberOf j < 3 → ⊥
   unfolding numberOf
-  third room k m r true t e f = absurd (sooner k (r .applies) (ltb-true (numberOf k) 3 e))
-    where
-      sooner : (j : Reason) → Applies file book room j → numberOf j < 3 → ⊥
-      sooner Reason.Empty a h = omega arith
-      sooner Reason.Ragged a h = a whole
-      sooner Reason.TooLong a h = omega arith
-      sooner Reason.BookUnsound a h = omega arith
-      sooner Reason.Nesting a h = omega arith
-      sooner Reason.ReportShort a h = omega arith
-      sooner Reason.LowByte a h = omega arith
-      sooner Reason.InputSystem a h = omega arith
-      sooner Reason.Version a h = omega arith
-      sooner Reason.TrailerDigits a h = omega arith
-      sooner Reason.RecordCount a h = omega arith
-      sooner Reason.PaymentCount a h = omega arith
-      sooner Reason.TotalAmount a h = omega arith
-  third room k m r false true e f = absurd (r .first Reason.TooLong (ltb-true 3 (numberOf k) f) long)
-  third room k m r false false e f = omega (arith, ltb-false (numberOf k) 3 e, ltb-false 3 (numberOf k) f)
-
-  named-none : (room : ℕ) (k : Reason) (m : ℕ) → k ≡ Reason.TooLong → Names file book room k m → m ≡ 0
-  named-none room k m e n = rw e at n
+  sooner room Reason.Empty a h = omega arith
+  sooner room Reason.Ragged a h = a whole
+  sooner room Reason.TooLong a h = omega arith
+  sooner room Reason.BookUnsound a h = omega arith
+  sooner room Reason.Nesting a h = omega arith
+  sooner room Reason.ReportShort a h = omega arith
+  sooner room Reason.LowByte a h = omega arith
+  sooner room Reason.InputSystem a h = omega arith
+  sooner room Reason.Version a h = omega arith
+  sooner room Reason.TrailerDigits a h = omega arith
+  sooner room Reason.RecordCount a h = omega arith
+  sooner room Reason.PaymentCount a h = omega arith
+  sooner room Reason.TotalAmount a h = omega arith
 
   pub too-long-refused : (report after : List ℕ) (answer : ℕ) → Judged file book report answer after → answer ≡ 300000
   unfolding numberOf
-  too-long-refused report after answer (Judged.refused k m r) =
-      let e = third (length report) k m r (ltb (numberOf k) 3) (ltb 3 (numberOf k)) refl refl in
-      let z = named-none (length report) k m (one-reason k Reason.TooLong e) (r .names) in
-      omega (arith, e, z)
+  too-long-refused report after answer (Judged.refused k m r) = go (the-first file book (length report) Reason.TooLong long (sooner (length report)) k m r) (r .names)
+    where
+      go : k ≡ Reason.TooLong → Names file book (length report) k m → numberOf k * 100000 + m ≡ 300000
+      go q n = let z : m ≡ 0 = rw q at n in rw q (omega (arith, z))
   too-long-refused report after answer (Judged.accepted n c l d g) = absurd (n Reason.TooLong long)
 
 -- bytes of any length

@@ -92,7 +92,13 @@ module _ (a b : Amount) (u : Whole a) (v : Whole b) where
       go false e = e ∙ sym (le-ltb (worth b) (worth a) (omega (arith, u, v, h, ltb-false (b .high) (a .high) e)))
 
 -- a field of twenty digits, read as two numbers of ten
-module _ (line : Line) (rec : List ℕ) (f : Field) (p : Has rec f) (w : f .width ≡ 20) (r : Bool) (e : r ≡ digits (held (seen line rec) f)) where
+module _ (line : Line) (rec : List ℕ) (f : Field) (p : Has rec f) (w : f .width ≡ 20) (r : Bool) (e : r ≡ digits (slice 0 20 (held (seen line rec) f))) where
+  twenty : length (held (seen line rec) f) ≡ 20
+  twenty = held-length line rec f p ∙ w
+
+  all-digits : r ≡ digits (held (seen line rec) f)
+  all-digits = e ∙ ap digits (take-all 20 (held (seen line rec) f) (omega (arith, twenty)))
+
   halves : (xs : List ℕ) → length xs ≡ 20 → digits xs ≡ true
       → (numeral xs ≡ numeral (slice 0 10 xs) * 10000000000 + numeral (slice 10 20 xs)) × (numeral (slice 10 20 xs) < 10000000000)
   halves xs n d =
@@ -102,17 +108,20 @@ module _ (line : Line) (rec : List ℕ) (f : Field) (p : Has rec f) (w : f .widt
       let l = numeral-below (slice 10 20 xs) (digits-part 10 20 xs true (sym d) refl) in
       rw t (omega (arith, rw (take-append-drop, k) at a, rw (t, k) at l))
 
+  pub half-digits : (from to : ℕ) → r ≡ true → digits (slice from to (held (seen line rec) f)) ≡ true
+  half-digits from to t = digits-part from to (held (seen line rec) f) r all-digits t
+
   pub amount-read : (h l : ℕ) → r ≡ true → h ≡ numeral (slice 0 10 (held (seen line rec) f)) → l ≡ numeral (slice 10 20 (held (seen line rec) f))
       → record { high = h; low = l } ≡ split (cents (held (seen line rec) f))
   unfolding cents split choose
   amount-read h l t a b =
-      let d : digits (held (seen line rec) f) ≡ true = sym e ∙ t in
-      let s = halves (held (seen line rec) f) (held-length line rec f p ∙ w) d in
+      let d : digits (held (seen line rec) f) ≡ true = sym all-digits ∙ t in
+      let s = halves (held (seen line rec) f) twenty d in
       rw d (amount-equal _ _ (omega (arith, a, b, s)) (omega (arith, a, b, s)))
 
   pub amount-none : r ≡ false → record { high = 0; low = 0 } ≡ split (cents (held (seen line rec) f))
   unfolding cents split choose
-  amount-none t = rw (sym e ∙ t)
+  amount-none t = rw (sym all-digits ∙ t)
 
 -- cents of a field of twenty bytes have twenty digits
 pub cents-below : (xs : List ℕ) → length xs ≤ 20 → cents xs < 100000000000000000000

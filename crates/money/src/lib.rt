@@ -19,12 +19,12 @@ pub struct Signed {
     pub negative: Amount,
 }
 
-// The amount in a field of twenty digits; zero where it is not twenty digits.
+// The amount in a field of twenty digits; zero where it is not twenty digits. The width is written out so that the loops are unrolled.
 pub fn field_amount(rec: &[u8], line: Line, field: Field) -> Amount
     requires { ⌜ Has (now rec) field × (field .width ≡ 20) ⌝ }
     ensures { λ r. ⌜ r ≡ split (cents (held (seen line (now (rec .entry))) field)) ⌝ }
 {
-    if record::field_digits(rec, line, field) {
+    if record::part_digits(rec, line, field, 0, 20) {
         let high = record::part_number(rec, line, field, 0, 10);
         let low = record::part_number(rec, line, field, 10, 20);
         return Amount { high, low };

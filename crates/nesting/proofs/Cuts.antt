@@ -8,7 +8,7 @@ use lib.ListN.{length, take, drop, getD, length-drop, take-append-drop}
 use lib.Seq.{take-take, drop-drop, take-add, drop-at, length-take-le}
 use Rattle.record.specs.Value.{seen}
 use Rattle.record.proofs.Held.{as-sent}
-use Rattle.nesting.specs.Division.{All, Whole}
+use Rattle.nesting.specs.Division.{Record, All, Whole}
 use Rattle.nesting.specs.Records.{cut, records, joined, Cuttable}
 use Rattle.nesting.proofs.Wholes.{Bytes, all-take, all-drop}
 
@@ -45,6 +45,18 @@ cut-joined n (suc k) xs h =
 pub records-joined : (f : List ℕ) → Cuttable f → joined (records f) ≡ f
 unfolding records
 records-joined f w = cut-joined 1 (length f / 850) f (omega (arith, w .whole))
+
+-- the record with this number, which begins at `at`, as a loop over the bytes takes it
+abbrev pub recordFrom : List ℕ → ℕ → ℕ → Record
+recordFrom f number at = seen (record { number = number }) (take (at + 850 - at) (drop at f))
+
+-- where one more record is left
+pub cut-next : (f : List ℕ) (number at count : ℕ)
+    → cut number (suc count) (drop at f) ≡ recordFrom f number at ∷ cut (number + 1) count (drop (at + 850) f)
+unfolding cut
+cut-next f number at count =
+    let k : at + 850 - at ≡ 850 = omega arith in
+    rw (k, drop-drop 850 at f)
 
 -- the records from a place on
 cut-drop : (n i m : ℕ) (xs : List ℕ) → drop i (cut n (i + m) xs) ≡ cut (n + i) m (drop (i * 850) xs)

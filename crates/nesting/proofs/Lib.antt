@@ -6,11 +6,10 @@ mod Steps
 mod Forward
 mod Backward
 mod Live
-mod Answer
+pub mod Answer
 pub mod OneDivision
 pub mod Theorems
 pub mod Parts
 pub mod Examples
 mod Arms
-mod Turns
 pub mod Unique

@@ -1,4 +1,4 @@
--- How the reader goes from record to record. No promise to other crates rests on it: the proofs tie it to Division.antt.
+-- How the reader goes from record to record. No promise about a file rests on it: the proofs tie it to Division.antt.
 use mathlib.Core.Bool.{Bool, true, false, not}
 use mathlib.Core.List.{List, [], _∷_}
 use Prim.Native.Nat.{ℕ, _+_}

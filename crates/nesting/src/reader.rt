@@ -13,7 +13,7 @@ ghost use Rattle.nesting.specs.Division.{paymentId};
 ghost use Rattle.nesting.specs.Reader.{placeNumber, isAt, sameLetter, besides, complete, owns, opensBatch, opensPayment, takesParty, takesAccount, takesProcurement, fits, start, moved, inBatch, inPayment, taken, next};
 
 // Where the reader stands.
-pub(crate) enum Place {
+pub enum Place {
     Start,
     FileOpen,
     BatchOpen,
@@ -23,15 +23,15 @@ pub(crate) enum Place {
 }
 
 // What is known after a record: the batch's letter, the payment's ID and what it has so far, the batches and payments so far.
-pub(crate) struct State {
+pub struct State {
     pub(crate) place: Place,
     pub(crate) letter: Letter,
     pub(crate) id: [u8; 20],
     pub(crate) party: bool,
     pub(crate) accounts: usize,
     pub(crate) procurements: usize,
-    pub(crate) batches: usize,
-    pub(crate) payments: usize,
+    pub batches: usize,
+    pub payments: usize,
 }
 
 fn place_number(place: Place) -> u8
@@ -48,7 +48,7 @@ fn place_number(place: Place) -> u8
 }
 
 // The reader stands at this place.
-pub(crate) fn is_at(state: State, place: Place) -> bool
+pub fn is_at(state: State, place: Place) -> bool
     ensures { λ r. ⌜ r ≡ isAt state place ⌝ }
 {
     let here = state.place;
@@ -176,7 +176,7 @@ fn may_take_procurement(state: State) -> bool
 }
 
 // The record, of this code, may come next.
-pub(crate) fn fits(rec: &[u8], line: Line, code: Code, state: State) -> bool
+pub fn fits(rec: &[u8], line: Line, code: Code, state: State) -> bool
     requires { ⌜ 22 ≤ length (now rec) ⌝ }
     ensures { λ r. ⌜ r ≡ fits state code (held (seen line (now (rec .entry))) paymentId) ⌝ }
 {
@@ -209,7 +209,7 @@ pub(crate) fn fits(rec: &[u8], line: Line, code: Code, state: State) -> bool
 }
 
 // Before the first record.
-pub(crate) fn start() -> State
+pub fn start() -> State
     ensures { λ r. ⌜ r ≡ start ⌝ }
 {
     State {
@@ -304,7 +304,7 @@ fn take(state: State, party: bool, accounts: usize, procurements: usize) -> Stat
 }
 
 // The state after a record that fits.
-pub(crate) fn after(rec: &[u8], line: Line, code: Code, state: State) -> State
+pub fn after(rec: &[u8], line: Line, code: Code, state: State) -> State
     requires { ⌜ (22 ≤ length (now rec)) × (state .batches < 65536) × (state .payments < 65536) × (fits state code (held (seen line (now rec)) paymentId) ≡ true) ⌝ }
     ensures { λ r. ⌜ r ≡ next state code (held (seen line (now (rec .entry))) paymentId) ⌝ }
 {

@@ -12,8 +12,9 @@ fn show(n: usize) {
 fn show_file(file: &[u8])
     requires { ⌜ Cuttable (now file) ⌝ }
 {
-    let verdict = nesting::nesting(file);
-    match verdict {
+    let found = survey::survey_file(file);
+    let nested = found.nested;
+    match nested {
         Verdict::Legal(batches, payments) => {
             io::write_all(1, b"legal");
             show(batches);

@@ -1,19 +1,22 @@
 -- What the tests of a field say, as a search uses them.
 -- Assumes nothing.
 use mathlib.Core.Path.{_≡_, refl, sym, ap, _∙_}
-use mathlib.Core.Bool.{Bool, true, false}
+use mathlib.Core.Bool.{Bool, true, false, true≢false}
 use mathlib.Core.List.{List, [], _∷_, _++_}
-use Prim.Native.Nat.{ℕ, suc, _+_, _-_, _<_, _≤_}
+use Prim.Native.Nat.{ℕ, suc, _+_, _-_, _*_, _<_, _≤_}
 use native.Mathlib.Numerals.{add-one}
 use native.Mathlib.Omega.{arith}
 use lib.Dec.{eqb, leb, ltb}
-use borrow.Author.Tests.{lt-leb, le-leb, eq-eqb, ne-eqb}
+use borrow.Author.Tests.{lt-leb, le-leb, lt-ltb, le-ltb, eq-eqb, ne-eqb, eqb-true, eqb-false}
 use lib.ListN.{length, drop, getD, replicate, drop-of-length-le, length-append, length-replicate, List·getD-append, getD-replicate}
 use lib.Seq.{drop-cons, getD-append-add}
 use Rattle.record.specs.Choice.{_and_, _or_, choose}
-use Rattle.record.specs.Tests.{every, alike}
+use Rattle.record.specs.Tests.{every, only, zeros, digit, digits, alike}
+use Rattle.record.specs.Numeral.{numeral, numeralFrom}
+use Rattle.record.proofs.Chain.{and-left, and-right}
+use Rattle.record.proofs.Every.{digit-range}
 use Rattle.money.specs.declared.Amount.{Amount}
-use Rattle.money.specs.Money.{worth, split, Whole}
+use Rattle.money.specs.Money.{worth, split, cents, Whole}
 use Rattle.money.proofs.Amounts.{worth-split}
 use Rattle.book.specs.declared.Book.{Book}
 use Rattle.book.specs.declared.Section.{Section}
@@ -65,6 +68,39 @@ module _ (r u : Bool) (a : Amount) (n : ℕ) (e : a ≡ split n) (t : r ≡ u) w
 
   pub equals : (s : Amount) → r ≡ eqb (worth a) (worth s) → eqb n (worth s) ≡ u
   equals s h = sym (rw worth-is at h) ∙ t
+
+-- digits write a number above zero unless all of them are zeros
+stays-above : (n : ℕ) (xs : List ℕ) → 0 < n → 0 < numeralFrom n xs
+unfolding numeralFrom
+stays-above n [] h = h
+stays-above n (x ∷ xs) h = stays-above (n * 10 + (x - 0xF0)) xs (omega arith)
+
+zeros-nothing : (xs : List ℕ) → zeros xs ≡ true → numeralFrom 0 xs ≡ 0
+unfolding numeralFrom only every
+zeros-nothing [] e = refl
+zeros-nothing (x ∷ xs) e =
+    let k : 0 * 10 + (x - 0xF0) ≡ 0 = omega (arith, eqb-true x 0xF0 (and-left _ _ e)) in
+    rw k (zeros-nothing xs (and-right _ _ e))
+
+rises-above : (xs : List ℕ) → digits xs ≡ true → zeros xs ≡ false → 0 < numeralFrom 0 xs
+unfolding numeralFrom digits only every _and_
+rises-above [] d e = absurd (true≢false e)
+rises-above (x ∷ xs) d e = go (eqb x 0xF0) refl (rises-above xs (and-right (digit x) (digits xs) d))
+  where
+    go : (t : Bool) → eqb x 0xF0 ≡ t → (zeros xs ≡ false → 0 < numeralFrom 0 xs) → 0 < numeralFrom 0 (x ∷ xs)
+    go true q rest =
+        let k : 0 * 10 + (x - 0xF0) ≡ 0 = omega (arith, eqb-true x 0xF0 q) in
+        rw k (rest (rw q at e))
+    go false q rest = stays-above (0 * 10 + (x - 0xF0)) xs (omega (arith, eqb-false x 0xF0 q, digit-range x (and-left (digit x) (digits xs) d)))
+
+module _ (v : List ℕ) (d : digits v ≡ true) where
+  pub some-cents : zeros v ≡ false → ltb 0 (cents v) ≡ true
+  unfolding cents choose numeral
+  some-cents e = rw d (lt-ltb 0 (numeralFrom 0 v) (rises-above v d e))
+
+  pub no-cents : zeros v ≡ true → ltb 0 (cents v) ≡ false
+  unfolding cents choose numeral
+  no-cents e = rw d (le-ltb 0 (numeralFrom 0 v) (omega (arith, zeros-nothing v e)))
 
 -- nothing, and the most that a check is written for
 pub whole-nothing : Whole (record { high = 0; low = 0 })

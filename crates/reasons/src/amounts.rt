@@ -30,11 +30,10 @@ pub fn positive(rec: &[u8], line: Line, field: Field) -> usize
     if !record::field_digits(rec, line, field) {
         return SHAPE;
     }
-    let paid = money::field_amount(rec, line, field);
-    if money::is_above(paid, NOTHING) {
-        return 0;
+    if record::field_zeros(rec, line, field) {
+        return RANGE;
     }
-    RANGE
+    0
 }
 
 // An amount of at most 9,999,999,999 cents, and zero if the check is voided.

@@ -26,7 +26,7 @@ module _ (classes class : ℕ) (r : Record) where
   unfolding inClass _and_
   other-sort o = sym (rw o)
 
-  pub by-class : (id : List ℕ) (hash : ℕ) → isOf Payments r ≡ true → id ≡ idOf r → hash ≡ hashOf id → eqb (hash / 281474976710656 % classes) class ≡ inClass classes class r
+  pub by-class : (id : List ℕ) (hash : ℕ) → isOf Payments r ≡ true → id ≡ idOf r → hash ≡ hashOf id → eqb (hash / 562949953421312 % classes) class ≡ inClass classes class r
   unfolding inClass classOf _and_
   by-class id hash o e h = sym (rw (o, h, e))
 
@@ -44,7 +44,7 @@ module _ (classes class : ℕ) where
   keep sieve [] r w m = (λ e. absurd (true≢false (sym e ∙ w)), tt)
   keep sieve (x ∷ rs) r w m = (m .0, keep sieve rs r w (m .1))
 
-  add : (sieve : List ℕ) (rs : List Record) (r : Record) → length sieve ≡ 512 → AllMarked classes class sieve rs → AllMarked classes class (withMarks sieve (hashOf (idOf r))) (rs ++ r ∷ [])
+  add : (sieve : List ℕ) (rs : List Record) (r : Record) → length sieve ≡ 1024 → AllMarked classes class sieve rs → AllMarked classes class (withMarks sieve (hashOf (idOf r))) (rs ++ r ∷ [])
   unfolding AllMarked
   add sieve [] r n m = (λ e. marks-own sieve n (hashOf (idOf r)), tt)
   add sieve (x ∷ rs) r n m = (λ e. marks-keep sieve n (hashOf (idOf r)) (hashOf (idOf x)) (m .0 e), add sieve rs r n (m .1))
@@ -95,9 +95,9 @@ module _ (classes class first : ℕ) (xs : List ℕ) where
     pub stay : (sieve : List ℕ) → inClass classes class (recordAt first place xs) ≡ false → AllMarked classes class sieve (cut first place xs) → AllMarked classes class sieve (cut first (place + 1) xs)
     stay sieve w m = rw (cut-snoc first place xs) (keep classes class sieve (cut first place xs) (recordAt first place xs) w m)
 
-    pub grow : (sieve after : List ℕ) → length sieve ≡ 512 → after ≡ withMarks sieve (hashOf (idOf (recordAt first place xs))) → AllMarked classes class sieve (cut first place xs)
+    pub grow : (sieve after : List ℕ) → length sieve ≡ 1024 → after ≡ withMarks sieve (hashOf (idOf (recordAt first place xs))) → AllMarked classes class sieve (cut first place xs)
         → AllMarked classes class after (cut first (place + 1) xs)
     grow sieve after n e m = rw (cut-snoc first place xs, e) (add classes class sieve (cut first place xs) (recordAt first place xs) n m)
 
-pub sifted-length : (sieve after : List ℕ) (hash : ℕ) → length sieve ≡ 512 → after ≡ withMarks sieve hash → length after ≡ 512
+pub sifted-length : (sieve after : List ℕ) (hash : ℕ) → length sieve ≡ 1024 → after ≡ withMarks sieve hash → length after ≡ 1024
 sifted-length sieve after hash n e = rw e (marks-length sieve n hash)

@@ -118,33 +118,33 @@ module _ (sieve : List ℕ) (hash : ℕ) where
   marks-given a b c p q r = r ∙ rw (q, p)
 
 -- what has its marks keeps them
-slots : (hash n : ℕ) → n ≡ 512 → (lowSlot hash / 64 < n) × (middleSlot hash / 64 < n) × (highSlot hash / 64 < n)
+slots : (hash n : ℕ) → n ≡ 1024 → (lowSlot hash / 64 < n) × (middleSlot hash / 64 < n) × (highSlot hash / 64 < n)
 slots hash n e = (omega arith, omega arith, omega arith)
 
 all-three : (a b c : Bool) → a ≡ true → b ≡ true → c ≡ true → (a and b and c) ≡ true
 unfolding _and_
 all-three a b c p q r = rw (p, q, r)
 
-module _ (sieve : List ℕ) (n : length sieve ≡ 512) (hash : ℕ) where
-  one-length : length (marked sieve (lowSlot hash)) ≡ 512
+module _ (sieve : List ℕ) (n : length sieve ≡ 1024) (hash : ℕ) where
+  one-length : length (marked sieve (lowSlot hash)) ≡ 1024
   one-length = mark-length sieve (lowSlot hash) ∙ n
 
-  two-length : length (marked (marked sieve (lowSlot hash)) (middleSlot hash)) ≡ 512
+  two-length : length (marked (marked sieve (lowSlot hash)) (middleSlot hash)) ≡ 1024
   two-length = mark-length _ (middleSlot hash) ∙ one-length
 
-  pub marks-length : length (withMarks sieve hash) ≡ 512
+  pub marks-length : length (withMarks sieve hash) ≡ 1024
   unfolding withMarks
   marks-length = mark-length _ (highSlot hash) ∙ two-length
 
   stays-one : (slot : ℕ) → isMarked sieve slot ≡ true → isMarked (marked sieve (lowSlot hash)) slot ≡ true
-  stays-one slot e = mark-keeps sieve (lowSlot hash) (rw n (slots hash 512 refl .0)) slot e
+  stays-one slot e = mark-keeps sieve (lowSlot hash) (rw n (slots hash 1024 refl .0)) slot e
 
   stays-two : (slot : ℕ) → isMarked (marked sieve (lowSlot hash)) slot ≡ true → isMarked (marked (marked sieve (lowSlot hash)) (middleSlot hash)) slot ≡ true
-  stays-two slot e = mark-keeps _ (middleSlot hash) (rw one-length (slots hash 512 refl .1)) slot e
+  stays-two slot e = mark-keeps _ (middleSlot hash) (rw one-length (slots hash 1024 refl .1)) slot e
 
   stays-three : (slot : ℕ) → isMarked (marked (marked sieve (lowSlot hash)) (middleSlot hash)) slot ≡ true → isMarked (withMarks sieve hash) slot ≡ true
   unfolding withMarks
-  stays-three slot e = mark-keeps _ (highSlot hash) (rw two-length (slots hash 512 refl .2)) slot e
+  stays-three slot e = mark-keeps _ (highSlot hash) (rw two-length (slots hash 1024 refl .2)) slot e
 
   stays : (slot : ℕ) → isMarked sieve slot ≡ true → isMarked (withMarks sieve hash) slot ≡ true
   stays slot e = stays-three slot (stays-two slot (stays-one slot e))
@@ -159,6 +159,6 @@ module _ (sieve : List ℕ) (n : length sieve ≡ 512) (hash : ℕ) where
   unfolding hasMarks withMarks
   marks-own =
       all-three _ _ _
-      (stays-three (lowSlot hash) (stays-two (lowSlot hash) (mark-own sieve (lowSlot hash) (rw n (slots hash 512 refl .0)))))
-      (stays-three (middleSlot hash) (mark-own _ (middleSlot hash) (rw one-length (slots hash 512 refl .1))))
-      (mark-own _ (highSlot hash) (rw two-length (slots hash 512 refl .2)))
+      (stays-three (lowSlot hash) (stays-two (lowSlot hash) (mark-own sieve (lowSlot hash) (rw n (slots hash 1024 refl .0)))))
+      (stays-three (middleSlot hash) (mark-own _ (middleSlot hash) (rw one-length (slots hash 1024 refl .1))))
+      (mark-own _ (highSlot hash) (rw two-length (slots hash 1024 refl .2)))

@@ -45,13 +45,13 @@ isMarked sieve slot = eqb (getD sieve (slot / 64) 0 / 2 ^ (slot % 64) % 2) 1
 
 -- the three slots of a hash
 abbrev pub lowSlot : ℕ → ℕ
-lowSlot hash = hash % 32768
+lowSlot hash = hash % 65536
 
 abbrev pub middleSlot : ℕ → ℕ
-middleSlot hash = hash / 32768 % 32768
+middleSlot hash = hash / 65536 % 65536
 
 abbrev pub highSlot : ℕ → ℕ
-highSlot hash = hash / 1073741824 % 32768
+highSlot hash = hash / 4294967296 % 65536
 
 -- the hash has its three marks
 unfoldable pub hasMarks : List ℕ → ℕ → Bool
@@ -63,7 +63,7 @@ withMarks sieve hash = marked (marked (marked sieve (lowSlot hash)) (middleSlot 
 
 -- the class of an ID, by the bits of its hash that choose no slot
 unfoldable pub classOf : ℕ → List ℕ → ℕ
-classOf classes id = hashOf id / 281474976710656 % classes
+classOf classes id = hashOf id / 562949953421312 % classes
 
 -- the record is a detail of the class
 unfoldable pub inClass : ℕ → ℕ → Record → Bool

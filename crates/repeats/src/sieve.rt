@@ -1,4 +1,4 @@
-// The first repeat of a Payment ID where the IDs do not climb: passes over classes of a hash, each with a sieve of 32,768 bits on the
+// The first repeat of a Payment ID where the IDs do not climb: passes over classes of a hash, each with a sieve of 65,536 bits on the
 // stack. The plain walk is made only where all three marks of an ID are set, so that a batch of many payments costs a few passes.
 use crate::Repeat;
 use crate::Sort;
@@ -52,8 +52,8 @@ fn hash_of(id: [u8; 20]) -> u64
     mix(stirred, 0)
 }
 
-fn is_marked(sieve: &[u64; 512], slot: usize) -> bool
-    requires { ⌜ slot < 32768 ⌝ }
+fn is_marked(sieve: &[u64; 1024], slot: usize) -> bool
+    requires { ⌜ slot < 65536 ⌝ }
     ensures { λ r. ⌜ r ≡ isMarked (now (sieve .entry)) slot ⌝ }
 {
     let bits = sieve[slot / 64];
@@ -61,8 +61,8 @@ fn is_marked(sieve: &[u64; 512], slot: usize) -> bool
     (bits >> bit) % 2 == 1
 }
 
-fn mark(sieve: &mut [u64; 512], slot: usize)
-    requires { ⌜ slot < 32768 ⌝ }
+fn mark(sieve: &mut [u64; 1024], slot: usize)
+    requires { ⌜ slot < 65536 ⌝ }
     ensures { λ r. ⌜ now (sieve .exit) ≡ marked (now (sieve .entry)) slot ⌝ }
 {
     let at = slot / 64;
@@ -71,24 +71,24 @@ fn mark(sieve: &mut [u64; 512], slot: usize)
 }
 
 // The hash has its three marks.
-fn has_marks(sieve: &[u64; 512], hash: u64) -> bool
+fn has_marks(sieve: &[u64; 1024], hash: u64) -> bool
     ensures { λ r. ⌜ r ≡ hasMarks (now (sieve .entry)) hash ⌝ }
 {
-    if !is_marked(sieve, (hash % 32768) as usize) {
+    if !is_marked(sieve, (hash % 65536) as usize) {
         return false;
     }
-    if !is_marked(sieve, (hash / 32768 % 32768) as usize) {
+    if !is_marked(sieve, (hash / 65536 % 65536) as usize) {
         return false;
     }
-    is_marked(sieve, (hash / 1073741824 % 32768) as usize)
+    is_marked(sieve, (hash / 4294967296 % 65536) as usize)
 }
 
-fn give_marks(sieve: &mut [u64; 512], hash: u64)
+fn give_marks(sieve: &mut [u64; 1024], hash: u64)
     ensures { λ r. ⌜ now (sieve .exit) ≡ withMarks (now (sieve .entry)) hash ⌝ }
 {
-    mark(sieve, (hash % 32768) as usize);
-    mark(sieve, (hash / 32768 % 32768) as usize);
-    mark(sieve, (hash / 1073741824 % 32768) as usize);
+    mark(sieve, (hash % 65536) as usize);
+    mark(sieve, (hash / 65536 % 65536) as usize);
+    mark(sieve, (hash / 4294967296 % 65536) as usize);
 }
 
 // The record at the place is a detail of the class.
@@ -100,11 +100,11 @@ fn is_in_class(part: &[u8], first: usize, place: usize, classes: u64, class: u64
         return false;
     }
     let hash = hash_of(payment_id(part, first, place));
-    hash / 281474976710656 % classes == class
+    hash / 562949953421312 % classes == class
 }
 
 // Whether the ID of the record at the place has its marks already. It has them after.
-fn sift(part: &[u8], first: usize, place: usize, sieve: &mut [u64; 512]) -> bool
+fn sift(part: &[u8], first: usize, place: usize, sieve: &mut [u64; 1024]) -> bool
     requires { ⌜ Stands first place (now part) ⌝ }
     ensures answer { λ r. ⌜ r ≡ hasMarks (now (sieve .entry)) (hashOf (idOf (recordAt first place (now (part .entry))))) ⌝ }
     ensures after { λ r. ⌜ now (sieve .exit) ≡ withMarks (now (sieve .entry)) (hashOf (idOf (recordAt first place (now (part .entry))))) ⌝ }
@@ -122,11 +122,11 @@ fn repeats_in(
     place: usize,
     classes: u64,
     class: u64,
-    sieve: &mut [u64; 512],
+    sieve: &mut [u64; 1024],
 ) -> bool
-    requires { ⌜ Stands first place (now part) × (0 < classes) × (length (now sieve) ≡ 512) × AllMarked classes class (now sieve) (cut first place (now part)) ⌝ }
+    requires { ⌜ Stands first place (now part) × (0 < classes) × (length (now sieve) ≡ 1024) × AllMarked classes class (now sieve) (cut first place (now part)) ⌝ }
     ensures answer { λ r. ⌜ r ≡ repeatsIn classes class first (now (part .entry)) place ⌝ }
-    ensures size { λ r. ⌜ length (now (sieve .exit)) ≡ 512 ⌝ }
+    ensures size { λ r. ⌜ length (now (sieve .exit)) ≡ 1024 ⌝ }
     ensures after { λ r. ⌜ AllMarked classes class (now (sieve .exit)) (cut first (place + 1) (now (part .entry))) ⌝ }
 {
     if !is_in_class(part, first, place, classes, class) {
@@ -143,7 +143,7 @@ fn pass(part: &[u8], first: usize, classes: u64, class: u64, best: usize) -> usi
     requires { ⌜ (length (now part) ≤ 65535 * 850) × (first ≤ 65536) × (best * 850 ≤ length (now part)) × (0 < classes) ⌝ }
     ensures { λ r. ⌜ Passed classes class first (now (part .entry)) best r ⌝ }
 {
-    let mut sieve = [0u64; 512];
+    let mut sieve = [0u64; 1024];
     let mut place: usize = 0;
     while place < best {
         if repeats_in(part, first, place, classes, class, &mut sieve) {
@@ -154,14 +154,14 @@ fn pass(part: &[u8], first: usize, classes: u64, class: u64, best: usize) -> usi
     best
 }
 
-// The first repeat. A class for 4,096 records: at least every second record of a batch is no detail (01 Nesting), so that some 2,000 IDs
+// The first repeat. A class for 8,192 records: at least every second record of a batch is no detail (01 Nesting), so that some 4,000 IDs
 // share a sieve, and a new ID meets three marks of others about once in 200 times at the end of a pass.
 pub(crate) fn first_by_classes(part: &[u8], first: usize) -> Repeat
     requires { ⌜ (length (now part) ≤ 65535 * 850) × (first ≤ 65536) ⌝ }
     ensures { λ r. ⌜ r ≡ firstRepeat Payments first [] (cut first (length (now (part .entry)) / 850) (now (part .entry))) ⌝ }
 {
     let count = part.len() / 850;
-    let classes = (count / 4096) as u64 + 1;
+    let classes = (count / 8192) as u64 + 1;
     let mut best = count;
     let mut class: u64 = 0;
     while class < classes {

@@ -1,4 +1,4 @@
-mod Codes
+pub mod Codes
 mod Turns
 pub mod Divided
 pub mod Unique

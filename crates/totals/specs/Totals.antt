@@ -12,10 +12,14 @@ use Rattle.nesting.specs.Division.{Record, Batch}
 use Rattle.repeats.specs.Repeats.{isDetail}
 use Rattle.batch.specs.Batch.{amount, paidBy}
 
--- the cents of the details among records; an amount that is not 20 digits counts as zero (01 File answers, 13)
+-- the cents of a detail, 0 of any other record; an amount that is not 20 digits counts as zero (01 File answers, 13)
+abbrev pub detailCents : Record → ℕ
+detailCents r = choose (isDetail (codeOf r)) (cents (held r amount)) 0
+
+-- the cents of the details among records (01 File answers, 13)
 unfoldable pub paidIn : List Record → ℕ
 paidIn [] = 0
-paidIn (r ∷ rs) = choose (isDetail (codeOf r)) (cents (held r amount)) 0 + paidIn rs
+paidIn (r ∷ rs) = detailCents r + paidIn rs
 
 -- the cents of the payments of batches: rejected batches count (01 File answers)
 unfoldable pub paidByAll : List Batch → ℕ

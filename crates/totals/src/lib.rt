@@ -1,4 +1,4 @@
-// What the records of a file come to: the sum of its details (01 File answers, 13), and where a batch ends (01 Nesting).
+// What a record adds to the sum of a file's details (01 File answers, 13), and where a batch ends (01 Nesting).
 use money::Amount;
 use record::Line;
 use record::codes::Code;
@@ -7,21 +7,17 @@ use record::layout::AMOUNT;
 ghost use mathlib.Core.Path.{_≡_};
 ghost use Prim.Native.Nat.{_*_, _/_, _%_, _≤_};
 ghost use lib.ListN.{length};
-ghost use Rattle.record.specs.Choice.{choose};
-ghost use Rattle.record.specs.Value.{seen, held};
+ghost use Rattle.record.specs.Value.{seen};
 ghost use Rattle.record.specs.Codes.{codeOf};
-ghost use Rattle.money.specs.Money.{split, cents};
-ghost use Rattle.nesting.specs.Records.{Cuttable, cut, records};
-ghost use Rattle.repeats.specs.Repeats.{isDetail};
-ghost use Rattle.batch.specs.Batch.{amount};
-ghost use Rattle.totals.specs.Totals.{paidIn, isTrailer, upToTrailer};
+ghost use Rattle.money.specs.Money.{split};
+ghost use Rattle.nesting.specs.Records.{cut};
+ghost use Rattle.totals.specs.Totals.{detailCents, isTrailer, upToTrailer};
 
-// What a record adds to the sum of details: its amount where it is one.
-fn detail_amount(rec: &[u8], line: Line) -> Amount
-    requires { ⌜ 850 ≤ length (now rec) ⌝ }
-    ensures { λ r. ⌜ r ≡ split (choose (isDetail (codeOf (seen line (now (rec .entry))))) (cents (held (seen line (now (rec .entry))) amount)) 0) ⌝ }
+// What a record, which has this code, adds to the sum of details: its amount where it is one.
+pub fn detail_amount(rec: &[u8], line: Line, code: Code) -> Amount
+    requires { ⌜ (850 ≤ length (now rec)) × (code ≡ codeOf (seen line (now rec))) ⌝ }
+    ensures { λ r. ⌜ r ≡ split (detailCents (seen line (now (rec .entry)))) ⌝ }
 {
-    let code = code_of(rec, line);
     match code {
         Code::Detail(_) => money::field_amount(rec, line, AMOUNT),
         _ => Amount { high: 0, low: 0 },
@@ -38,24 +34,6 @@ fn is_trailer(rec: &[u8], line: Line) -> bool
         Code::BatchTrailer => true,
         _ => false,
     }
-}
-
-// The exact sum of the file's details (01 File answers, 13).
-pub fn details_total(file: &[u8]) -> Amount
-    requires { ⌜ Cuttable (now file) ⌝ }
-    ensures { λ r. ⌜ r ≡ split (paidIn (records (now (file .entry)))) ⌝ }
-{
-    let mut sum = Amount { high: 0, low: 0 };
-    let mut number: usize = 1;
-    let mut at: usize = 0;
-    while at < file.len() {
-        let end = at + 850;
-        let more = detail_amount(&file[at..end], Line { number });
-        sum = money::plus(sum, more);
-        number += 1;
-        at = end;
-    }
-    sum
 }
 
 // The records of the batch that begins the part: up to its BT (01 Nesting). The part's first record has the number `first`.

@@ -13,6 +13,7 @@ use Rattle.record.specs.Value.{held}
 use Rattle.record.specs.Tests.{digits, alike}
 use Rattle.record.specs.Numeral.{numeral}
 use Rattle.record.proofs.Chain.{and-right}
+use Rattle.money.specs.declared.Amount.{Amount}
 use Rattle.money.specs.Money.{split, cents}
 use Rattle.book.specs.declared.Book.{Book}
 use Rattle.book.specs.Book.{Contents, Lists, placed, standing, past}
@@ -40,7 +41,7 @@ strange-in : (book : List ℕ) (c : Contents) → Lists book c → (s : Book) �
 unfolding strangeIn strange placed standing past
 strange-in book c l s e v = rw (e, shelves book c l .systems .entries)
 
-module _ (file book : List ℕ) (room : ℕ) (s : Book) (batches payments : ℕ) (k : Known file book s batches payments) where
+module _ (file book : List ℕ) (room : ℕ) (s : Book) (batches payments : ℕ) (total : Amount) (k : Known file book s batches payments total) where
   abbrev c : Contents
   c = k .contents
 

@@ -9,7 +9,7 @@ use lib.ListN.{length, take, drop}
 use Rattle.record.specs.Choice.{choose}
 use Rattle.record.specs.Value.{seen}
 use Rattle.money.specs.declared.Amount.{Amount}
-use Rattle.money.specs.Money.{worth, split}
+use Rattle.money.specs.Money.{worth}
 use Rattle.money.proofs.Amounts.{worth-split}
 use Rattle.book.specs.declared.Book.{Book}
 use Rattle.book.specs.Book.{Shelved, placed, past}
@@ -39,7 +39,7 @@ unclean-few n (r ∷ rs) = go (clean r) (unclean-few (n + 1) rs)
     go false h = omega arith
 
 -- a file that has a division, beside a book that lists something
-module _ (file book : List ℕ) (s : Book) (batches payments : ℕ) (k : Known file book s batches payments) where
+module _ (file book : List ℕ) (s : Book) (batches payments : ℕ) (total : Amount) (k : Known file book s batches payments total) where
   abbrev d : Division
   d = k .division
 
@@ -58,14 +58,14 @@ module _ (file book : List ℕ) (s : Book) (batches payments : ℕ) (k : Known f
     header-read : (room : ℕ) → Clear file book room 8 → Tested file book room 10 1 h
     header-read room c =
         subst (λ (r : ℕ). Tested file book room 10 1 r)
-        (sym (e ∙ ap (headerReason book (s .systems)) (header-first file (k .cuttable) d (k .divided)))) (header-tested file book room s batches payments k c)
+        (sym (e ∙ ap (headerReason book (s .systems)) (header-first file (k .cuttable) d (k .divided)))) (header-tested file book room s batches payments total k c)
 
     pub header-refused : (h ≡ 0 → ⊥) → (v : Verdict) → v ≡ refusalBy h 1 → Framed file book v
     header-refused n v q = record { judged = λ room c. rw q (refused-by file book room 10 1 h (header-read room c) n) }
 
-    -- FT, as it is handed on, and what the details come to
-    module _ (z : h ≡ 0) (a : Amount) (p : a ≡ split (paidIn (records file))) (t : ℕ)
-        (f : t ≡ trailerReason (length file / 850) payments (worth a)
+    -- FT, as it is handed on
+    module _ (z : h ≡ 0) (t : ℕ)
+        (f : t ≡ trailerReason (length file / 850) payments (worth total)
         (seen (record { number = length file / 850 }) (take (length file - (length file - 850)) (drop (length file - 850) file)))) where
       paid : paidIn (records file) ≡ paidByAll (d .batches)
       paid = rw (← k .divided .whole) (paid-divided d (k .divided .legal))
@@ -73,17 +73,17 @@ module _ (file book : List ℕ) (s : Book) (batches payments : ℕ) (k : Known f
       trailer-read : (room : ℕ) → Clear file book room 8 → Tested file book room 14 (length file / 850) t
       trailer-read room c =
           let n : length file - (length file - 850) ≡ 850 = omega (arith, some-record) in
-          let w : worth a ≡ paidByAll (d .batches) = ap worth p ∙ worth-split _ ∙ paid in
+          let w : worth total ≡ paidByAll (d .batches) = ap worth (k .summed) ∙ worth-split _ ∙ paid in
           let g = rw (n, w, trailer-last file (k .cuttable) d (k .divided)) at f in
-          rw g (trailer-tested file book room s batches payments k (clear-of file book room 10 1 h (header-read room c) z))
+          rw g (trailer-tested file book room s batches payments total k (clear-of file book room 10 1 h (header-read room c) z))
 
       pub trailer-refused : (t ≡ 0 → ⊥) → (v : Verdict) → v ≡ refusalBy t (length file / 850) → Framed file book v
       trailer-refused n v q = record { judged = λ room c. rw q (refused-by file book room 14 (length file / 850) t (trailer-read room c) n) }
 
-      pub all-passed : t ≡ 0 → Framed file book (record { answer = 0; shelves = s; batches = batches; payments = payments; total = a })
+      pub all-passed : t ≡ 0 → Framed file book (record { answer = 0; shelves = s; batches = batches; payments = payments; total = total })
       all-passed o =
           record {
-            judged = λ room c. rw (p, paid) (accepted-as file book room s batches payments k (clear-of file book room 14 (length file / 850) t (trailer-read room c) o));
+            judged = λ room c. rw (k .summed, paid) (accepted-as file book room s batches payments total k (clear-of file book room 14 (length file / 850) t (trailer-read room c) o));
           }
 
   -- 6 and 7
@@ -91,8 +91,8 @@ module _ (file book : List ℕ) (s : Book) (batches payments : ℕ) (k : Known f
   unfolding refusalBy refusal numberOf
   short room l v q =
       let b : room < 64 * (1 + length (d .batches)) = rw (← k .batched) l in
-      let o = of-these file book room s batches payments k (λ c e. room < 64 * (1 + length (e .batches))) b in
-      rw q (refused ReportShort 0 (given file book room ReportShort 0 (known-clear file book room s batches payments k) o refl))
+      let o = of-these file book room s batches payments total k (λ c e. room < 64 * (1 + length (e .batches))) b in
+      rw q (refused ReportShort 0 (given file book room ReportShort 0 (known-clear file book room s batches payments total k) o refl))
 
   pub unclean-small : (u : ℕ) → u ≡ firstUnclean 1 (records file) → u ≤ 65536
   unclean-small u e = omega (arith, e, unclean-few 1 (records file), count-of file, k .cuttable .few)
@@ -101,8 +101,8 @@ module _ (file book : List ℕ) (s : Book) (batches payments : ℕ) (k : Known f
     long-clear : Clear file book room 7
     unfolding numberOf
     long-clear =
-        clear-next file book room ReportShort (known-clear file book room s batches payments k)
-        (λ o. omega (arith, l, k .batched, of-others file book room s batches payments k (λ c e. room < 64 * (1 + length (e .batches))) o))
+        clear-next file book room ReportShort (known-clear file book room s batches payments total k)
+        (λ o. omega (arith, l, k .batched, of-others file book room s batches payments total k (λ c e. room < 64 * (1 + length (e .batches))) o))
 
     pub low : (u ≡ 0 → ⊥) → (v : Verdict) → v ≡ refusalBy 7 u → Judgement file book room v
     unfolding refusalBy refusal numberOf

@@ -6,14 +6,18 @@ use mathlib.Core.List.{List}
 use Prim.Native.Nat.{ℕ, _≤_}
 use native.Mathlib.Omega.{arith}
 use lib.ListN.{length}
+use Rattle.money.specs.Money.{split}
 use Rattle.book.specs.declared.Book.{Book}
 use Rattle.book.specs.Book.{Contents, Lists, Opened, placed, shut}
 use Rattle.book.specs.Book.Opened.{sound, unsound}
-use Rattle.nesting.specs.declared.Verdict.{Verdict as Nesting-Verdict}
 use Rattle.nesting.specs.declared.Verdict.the-variants as nested
-use Rattle.nesting.specs.Division.{Record}
+use Rattle.nesting.specs.Division.{Division, DivisionOf, paymentCount}
 use Rattle.nesting.specs.Records.{records, Cuttable}
-use Rattle.nesting.specs.Promise.{RefusedAt, Nested}
+use Rattle.nesting.specs.Promise.{RefusedAt}
+use Rattle.characters.specs.Characters.{firstUnclean}
+use Rattle.totals.specs.Totals.{paidIn}
+use Rattle.survey.specs.declared.Survey.{Survey}
+use Rattle.survey.specs.Survey.{Surveyed}
 use Rattle.verdict.specs.declared.Verdict.{Verdict}
 use Rattle.verdict.specs.Answer.{numberOf, refusal, Judgement}
 use Rattle.verdict.specs.Answer.Reason.{BookUnsound, Nesting}
@@ -38,12 +42,22 @@ unfolding shut
 some-contents book s (sound c l) e = record { contents = c; lists = l; opened = refl }
 some-contents book s (unsound n) e = absurd (true≢false (sym e))
 
--- what an answer about nesting comes to
-refused-in : (rs : List Record) (m : ℕ) → Nested rs (nested.Refused m) → RefusedAt rs m
-refused-in rs m (Nested.refused _ t) = t
+-- what a pass over the records comes to
+refused-at : (file : List ℕ) (t : Survey) → Surveyed file t → (m : ℕ) → t .nested ≡ nested.Refused m → RefusedAt (records file) m
+refused-at file t (Surveyed.legal d h) m e = absurd (true≢false (cc))
+refused-at file t (Surveyed.refused k r) m e = let q : k ≡ m = cc in rw (← q) r
 
-refused-at : (rs : List Record) (w : Nesting-Verdict) → Nested rs w → (m : ℕ) → w ≡ nested.Refused m → RefusedAt rs m
-refused-at rs w t m e = refused-in rs m (rw (← e) t)
+record Nests (file : List ℕ) (t : Survey) (b p : ℕ) : Type 0 where
+  division : Division
+  divided : DivisionOf (records file) division
+  batched : b ≡ length (division .batches)
+  paid : p ≡ paymentCount (division .batches)
+  unclean : t .unclean ≡ firstUnclean 1 (records file)
+  summed : t .total ≡ split (paidIn (records file))
+
+nests : (file : List ℕ) (t : Survey) → Surveyed file t → (b p : ℕ) → t .nested ≡ nested.Legal b p → Nests file t b p
+nests file t (Surveyed.legal d h) b p e = record { division = d; divided = h; batched = cc; paid = cc; unclean = refl; summed = refl }
+nests file t (Surveyed.refused k r) b p e = absurd (true≢false (cc))
 
 -- any file and any book
 module _ (file book : List ℕ) (room u : ℕ) (e : u ≡ lengthReason (length file)) where
@@ -69,26 +83,31 @@ module _ (file book : List ℕ) (room u : ℕ) (e : u ≡ lengthReason (length f
       unfolding numberOf
       sound-clear = let f = some-contents book s o y in clear-next file book room BookUnsound fit (λ n. n (f .contents) (f .lists))
 
-      pub unnested : (w : Nesting-Verdict) → Nested (records file) w → (m : ℕ) → w ≡ nested.Refused m → (v : Verdict) → v ≡ refusalBy 5 m → Judgement file book room v
-      unfolding refusalBy refusal numberOf
-      unnested w t m e v q = let r = refused-at (records file) w t m e in rw q (refused Nesting m (given file book room Nesting m sound-clear (r .none) r))
+      -- what the pass over the records found
+      module _ (t : Survey) (g : Surveyed file t) where
+        pub unnested : (m : ℕ) → t .nested ≡ nested.Refused m → (v : Verdict) → v ≡ refusalBy 5 m → Judgement file book room v
+        unfolding refusalBy refusal numberOf
+        unnested m e v q = let r = refused-at file t g m e in rw q (refused Nesting m (given file book room Nesting m sound-clear (r .none) r))
 
-      pub named-small : (w : Nesting-Verdict) → Nested (records file) w → (m : ℕ) → w ≡ nested.Refused m → m ≤ 65536
-      named-small w t m e = omega (arith, refused-at (records file) w t m e .to, count-of file, fit-cuttable .few)
+        pub named-small : (m : ℕ) → t .nested ≡ nested.Refused m → m ≤ 65536
+        named-small m e = omega (arith, refused-at file t g m e .to, count-of file, fit-cuttable .few)
 
-      divided-in : (b p : ℕ) → Nested (records file) (nested.Legal b p) → Known file book s b p
-      divided-in b p (Nested.legal d h) =
-          let f = some-contents book s o y in
-          record {
-            cuttable = fit-cuttable;
-            contents = f .contents;
-            lists = f .lists;
-            opened = f .opened;
-            division = d;
-            divided = h;
-            batched = refl;
-            paid = refl;
-          }
+        module _ (b p : ℕ) (q : t .nested ≡ nested.Legal b p) where
+          pub divided : Known file book s b p (t .total)
+          divided =
+              let f = some-contents book s o y in
+              let n = nests file t g b p q in
+              record {
+                cuttable = fit-cuttable;
+                contents = f .contents;
+                lists = f .lists;
+                opened = f .opened;
+                division = n .division;
+                divided = n .divided;
+                batched = n .batched;
+                paid = n .paid;
+                summed = n .summed;
+              }
 
-      pub divided : (w : Nesting-Verdict) → Nested (records file) w → (b p : ℕ) → w ≡ nested.Legal b p → Known file book s b p
-      divided w t b p e = divided-in b p (rw (← e) t)
+          pub first-unclean : t .unclean ≡ firstUnclean 1 (records file)
+          first-unclean = nests file t g b p q .unclean

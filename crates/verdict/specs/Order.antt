@@ -9,6 +9,7 @@ use Rattle.record.specs.Choice.{_and_, _or_, choose}
 use Rattle.record.specs.Value.{held}
 use Rattle.record.specs.Tests.{blank, digits, alike}
 use Rattle.record.specs.Numeral.{numeral}
+use Rattle.money.specs.declared.Amount.{Amount}
 use Rattle.money.specs.Money.{split, cents}
 use Rattle.book.specs.declared.Section.{Section}
 use Rattle.book.specs.declared.Book.{Book}
@@ -16,6 +17,7 @@ use Rattle.book.specs.Book.{Contents, Lists, entriesAt, entryFor, placed, shut}
 use Rattle.nesting.specs.Division.{Record, Division, DivisionOf, paymentCount}
 use Rattle.nesting.specs.Records.{Cuttable, records}
 use Rattle.reasons.specs.Reasons.{isNone}
+use Rattle.totals.specs.Totals.{paidIn}
 use Rattle.verdict.specs.declared.Verdict.{Verdict}
 use Rattle.verdict.specs.Answer.{Reason, numberOf, Applies, Judgement, inputSystem, versionIdentifier, totalCountRecords, totalCount, totalAmount, version201}
 use Rattle.verdict.specs.Answer.Reason.{Empty, Ragged, TooLong, InputSystem, Version, TrailerDigits, RecordCount, PaymentCount, TotalAmount}
@@ -53,8 +55,8 @@ trailerReason count payments total r =
     (numberOf RecordCount))
     (numberOf TrailerDigits)
 
--- what answers 1 to 5 leave: whole records with a division, and a book that lists something
-pub record Known (file book : List ℕ) (shelves : Book) (batches payments : ℕ) : Type 0 where
+-- what answers 1 to 5 leave: whole records with a division, what they come to, and a book that lists something
+pub record Known (file book : List ℕ) (shelves : Book) (batches payments : ℕ) (total : Amount) : Type 0 where
   pub cuttable : Cuttable file
   pub contents : Contents
   pub lists : Lists book contents
@@ -63,6 +65,7 @@ pub record Known (file book : List ℕ) (shelves : Book) (batches payments : ℕ
   pub divided : DivisionOf (records file) division
   pub batched : batches ≡ length (division .batches)
   pub paid : payments ≡ paymentCount (division .batches)
+  pub summed : total ≡ split (paidIn (records file))
 
 -- no reason with a number below n applies
 pub record Clear (file book : List ℕ) (room n : ℕ) : Type 0 where

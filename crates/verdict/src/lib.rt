@@ -10,6 +10,8 @@ ghost use mathlib.Core.Path.{_≡_};
 ghost use Prim.Native.Nat.{_≤_};
 ghost use lib.ListN.{length};
 ghost use Rattle.book.specs.Book.{shut};
+ghost use Rattle.nesting.specs.Records.{records};
+ghost use Rattle.characters.specs.Characters.{firstUnclean};
 ghost use Rattle.verdict.specs.Answer.{Judgement};
 ghost use Rattle.verdict.specs.Order.{refusalBy, lengthReason, Known, Framed};
 
@@ -78,8 +80,15 @@ fn length_reason(file: &[u8]) -> u64
 }
 
 // 8 to 13 by the file's first and last record, or accepted.
-fn judge_frame(file: &[u8], book: &[u8], shelves: Book, batches: usize, payments: usize) -> Verdict
-    requires { ⌜ Known (now file) (now book) shelves batches payments ⌝ }
+fn judge_frame(
+    file: &[u8],
+    book: &[u8],
+    shelves: Book,
+    batches: usize,
+    payments: usize,
+    total: Amount,
+) -> Verdict
+    requires { ⌜ Known (now file) (now book) shelves batches payments total ⌝ }
     ensures { λ r. ⌜ Framed (now (file .entry)) (now (book .entry)) r ⌝ }
 {
     let systems = shelves.systems;
@@ -90,7 +99,6 @@ fn judge_frame(file: &[u8], book: &[u8], shelves: Book, batches: usize, payments
     let end = file.len();
     let start = end - 850;
     let number = end / 850;
-    let total = totals::details_total(file);
     let trailer = frame::trailer_reason(&file[start..end], Line { number }, payments, total);
     if trailer != 0 {
         return refuse(trailer, number);
@@ -112,8 +120,10 @@ fn judge_divided(
     shelves: Book,
     batches: usize,
     payments: usize,
+    unclean: usize,
+    total: Amount,
 ) -> Verdict
-    requires { ⌜ Known (now file) (now book) shelves batches payments ⌝ }
+    requires { ⌜ Known (now file) (now book) shelves batches payments total × (unclean ≡ firstUnclean 1 (records (now file))) ⌝ }
     ensures { λ r. ⌜ Judgement (now (file .entry)) (now (book .entry)) room r ⌝ }
 {
     let rows = 1 + batches;
@@ -121,11 +131,10 @@ fn judge_divided(
     if room < wanted {
         return refuse(reason::REPORT_SHORT, 0);
     }
-    let unclean = characters::first_unclean(file);
     if unclean != 0 {
         return refuse(reason::LOW_BYTE, unclean);
     }
-    judge_frame(file, book, shelves, batches, payments)
+    judge_frame(file, book, shelves, batches, payments, total)
 }
 
 // The answer about a file and the room of a report, in document 01's order. Nothing is written.
@@ -140,7 +149,9 @@ pub fn file_answer(file: &[u8], book: &[u8], room: usize) -> Verdict
     if !shelves.sound {
         return refuse(reason::BOOK_UNSOUND, 0);
     }
-    let nested = nesting::nesting(file);
+    let found = survey::survey_file(file);
+    let nested = found.nested;
+    let total = found.total;
     match nested {
         nesting::Verdict::Refused(number) => refuse(reason::NESTING, number),
         nesting::Verdict::Legal(batches, payments) => judge_divided(
@@ -150,6 +161,8 @@ pub fn file_answer(file: &[u8], book: &[u8], room: usize) -> Verdict
             shelves,
             batches,
             payments,
+            found.unclean,
+            total,
         ),
     }
 }

@@ -3,11 +3,11 @@ use borrow.Author.Needs.{needs}
 use Rattle.batch_vectors.proofs.show_file.Statement.{statement}
 use Rattle.batch_vectors.proofs.show_file.Tie as tie
 
-nesting-requires : tie.Need-nesting-requires
-nesting-requires c κs = search needs
+survey-file-requires : tie.Need-survey-file-requires
+survey-file-requires c κs = search needs
 
-enum-known-verdict : tie.Need-enum-known-verdict
-enum-known-verdict c = search needs
+enum-known-nested : tie.Need-enum-known-nested
+enum-known-nested c = search needs
 
 sub-end : tie.Need-sub-end
 sub-end c = search (needs, lone-start)
@@ -46,8 +46,8 @@ pub show-file-spec : {M : Type 1} → statement M
 show-file-spec =
     tie.close
     (tie.spec
-    nesting-requires
-    enum-known-verdict
+    survey-file-requires
+    enum-known-nested
     sub-end
     sub-show-batch
     part-show-batch-start

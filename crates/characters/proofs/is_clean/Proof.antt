@@ -4,9 +4,6 @@ use borrow.Author.Needs.{needs}
 use Rattle.characters.proofs.is_clean.Statement.{statement}
 use Rattle.characters.proofs.is_clean.Tie as tie
 
-code-of-requires : tie.Need-code-of-requires
-code-of-requires c κs = search needs
-
 enum-told : tie.Need-enum-told
 enum-told c = search needs
 
@@ -98,7 +95,6 @@ pub is-clean-spec : {M : Type 1} → statement M
 is-clean-spec =
     tie.close
     (tie.spec
-    code-of-requires
     enum-told
     field-valid-requires
     enum-told-2

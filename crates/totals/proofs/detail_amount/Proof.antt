@@ -3,9 +3,6 @@ use borrow.Author.Needs.{needs}
 use Rattle.totals.proofs.detail_amount.Statement.{statement}
 use Rattle.totals.proofs.detail_amount.Tie as tie
 
-code-of-requires : tie.Need-code-of-requires
-code-of-requires c κs = search needs
-
 enum-told : tie.Need-enum-told
 enum-told c = search needs
 
@@ -20,4 +17,4 @@ returns-2 c = search (needs, no-amount)
 
 pub detail-amount-spec : {M : Type 1} → statement M
 detail-amount-spec =
-    tie.close (tie.spec code-of-requires enum-told field-amount-requires returns returns-2)
+    tie.close (tie.spec enum-told field-amount-requires returns returns-2)

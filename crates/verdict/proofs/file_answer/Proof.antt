@@ -1,5 +1,5 @@
 use Rattle.verdict.proofs.Laws.{length-small}
-use Rattle.verdict.proofs.Opening.{unfit, bookless, fit-cuttable, unnested, named-small, divided}
+use Rattle.verdict.proofs.Opening.{unfit, bookless, fit-cuttable, unnested, named-small, divided, first-unclean}
 use borrow.Author.Tests.{not-true, not-false}
 use borrow.Author.Needs.{needs}
 use Rattle.verdict.proofs.file_answer.Statement.{statement}
@@ -23,8 +23,8 @@ refuse-requires-2 c κs = search needs
 returns-2 : tie.Need-returns-2
 returns-2 c = search (needs, bookless, not-true)
 
-nesting-requires : tie.Need-nesting-requires
-nesting-requires c κs = search (needs, fit-cuttable)
+survey-file-requires : tie.Need-survey-file-requires
+survey-file-requires c κs = search (needs, fit-cuttable)
 
 enum-known-nested : tie.Need-enum-known-nested
 enum-known-nested c = search needs
@@ -36,7 +36,7 @@ enum-known-nested-2 : tie.Need-enum-known-nested-2
 enum-known-nested-2 c = search needs
 
 judge-divided-requires : tie.Need-judge-divided-requires
-judge-divided-requires c κs = search (needs, divided, not-false)
+judge-divided-requires c κs = search (needs, divided, first-unclean, not-false)
 
 returns-3 : tie.Need-returns-3
 returns-3 c = search (needs, unnested, not-false)
@@ -54,7 +54,7 @@ file-answer-spec =
     read-book-requires
     refuse-requires-2
     returns-2
-    nesting-requires
+    survey-file-requires
     enum-known-nested
     refuse-requires-3
     enum-known-nested-2

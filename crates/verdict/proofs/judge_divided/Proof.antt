@@ -4,19 +4,16 @@ use Rattle.verdict.proofs.judge_divided.Statement.{statement}
 use Rattle.verdict.proofs.judge_divided.Tie as tie
 
 add-rows : tie.Need-add-rows
-add-rows c = let k = batches-small _ _ _ _ _ (c .before .before .pre) in search needs
+add-rows c = let k = batches-small _ _ _ _ _ _ (c .before .before .pre .0) in search needs
 
 mul-wanted : tie.Need-mul-wanted
-mul-wanted c = let k = batches-small _ _ _ _ _ (c .before .before .pre) in search needs
+mul-wanted c = let k = batches-small _ _ _ _ _ _ (c .before .before .pre .0) in search needs
 
 refuse-requires : tie.Need-refuse-requires
 refuse-requires c κs = search (needs, unclean-small)
 
 returns : tie.Need-returns
 returns c = search (needs, short)
-
-first-unclean-requires : tie.Need-first-unclean-requires
-first-unclean-requires c κs = search needs
 
 refuse-requires-2 : tie.Need-refuse-requires-2
 refuse-requires-2 c κs = search (needs, unclean-small)
@@ -38,7 +35,6 @@ judge-divided-spec =
     mul-wanted
     refuse-requires
     returns
-    first-unclean-requires
     refuse-requires-2
     returns-2
     judge-frame-requires

@@ -26,9 +26,6 @@ returns c = search (needs, header-refused)
 sub-start : tie.Need-sub-start
 sub-start c = search (needs, some-record)
 
-details-total-requires : tie.Need-details-total-requires
-details-total-requires c κs = search needs
-
 sub-trailer-reason : tie.Need-sub-trailer-reason
 sub-trailer-reason c = search needs
 
@@ -39,7 +36,7 @@ part-trailer-reason-end : tie.Need-part-trailer-reason-end
 part-trailer-reason-end c = search needs
 
 trailer-reason-requires : tie.Need-trailer-reason-requires
-trailer-reason-requires c κs = let k = some-record _ _ _ _ _ (c .before .before .before .before .before .before .before .before .pre) in search (needs, whole-of)
+trailer-reason-requires c κs = let k = some-record _ _ _ _ _ _ (c .before .before .before .before .before .before .before .pre) in search (needs, whole-of)
 
 refuse-requires-2 : tie.Need-refuse-requires-2
 refuse-requires-2 c κs = search (needs, trailer-small)
@@ -61,7 +58,6 @@ judge-frame-spec =
     refuse-requires
     returns
     sub-start
-    details-total-requires
     sub-trailer-reason
     part-trailer-reason-start
     part-trailer-reason-end

@@ -1,8 +1,7 @@
 use borrow.Author.Needs.{needs}
 use Rattle.reasons.proofs.amounts.positive.Statement.{statement}
 use Rattle.reasons.proofs.amounts.positive.Tie as tie
-use Rattle.money.proofs.Amounts.{whole-of}
-use Rattle.reasons.proofs.Laws.{above, whole-nothing, whole-limit}
+use Rattle.reasons.proofs.Laws.{some-cents, no-cents}
 use Rattle.record.proofs.Chain.{chain, reads}
 use Rattle.reasons.specs.Reasons.{positive}
 
@@ -11,28 +10,25 @@ field-blank-requires c κs = search needs
 
 returns : tie.Need-returns
 unfolding positive
-returns c = search (needs, chain, reads, above)
+returns c = search (needs, chain, reads)
 
 field-digits-requires : tie.Need-field-digits-requires
 field-digits-requires c κs = search needs
 
 returns-2 : tie.Need-returns-2
 unfolding positive
-returns-2 c = search (needs, chain, reads, above)
+returns-2 c = search (needs, chain, reads)
 
-field-amount-requires : tie.Need-field-amount-requires
-field-amount-requires c κs = search needs
-
-is-above-requires : tie.Need-is-above-requires
-is-above-requires c κs = (search (needs, whole-of, whole-nothing, whole-limit), search (needs, whole-of, whole-nothing, whole-limit))
+field-zeros-requires : tie.Need-field-zeros-requires
+field-zeros-requires c κs = search needs
 
 returns-3 : tie.Need-returns-3
 unfolding positive
-returns-3 c = search (needs, chain, reads, above)
+returns-3 c = search (needs, chain, reads, no-cents)
 
 returns-4 : tie.Need-returns-4
 unfolding positive
-returns-4 c = search (needs, chain, reads, above)
+returns-4 c = search (needs, chain, reads, some-cents)
 
 pub positive-spec : {M : Type 1} → statement M
 positive-spec =
@@ -42,7 +38,6 @@ positive-spec =
     returns
     field-digits-requires
     returns-2
-    field-amount-requires
-    is-above-requires
+    field-zeros-requires
     returns-3
     returns-4)

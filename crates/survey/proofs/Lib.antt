@@ -1,0 +1,3 @@
+mod Turns
+pub mod Theorems
+pub mod Unique
