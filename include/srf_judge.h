@@ -42,7 +42,7 @@ extern "C" {
  * Threads: nothing is kept between calls and there is no global state. Any number of threads may call at once, also with one file and
  * one book, if their reports do not overlap.
  *
- * Space: no heap, no system calls, at most 8 KB of stack. Of the C library it needs memcpy and memset. In threads with little stack
+ * Space: no heap, no system calls, at most 12 KB of stack. Of the C library it needs memcpy and memset. In threads with little stack
  * have them bound when the program starts (-Wl,-z,now): bound at first use, the dynamic linker takes some 3 KB of stack more.
  *
  * Time: about linear; the longest file takes a tenth of a second. Schedule numbers that do not ascend in file order cost a walk over the
