@@ -1,6 +1,6 @@
 """A judge of SRF files in plain Python, written from documents 01 and 004: what the programs are expected to print.
 
-It goes over whole lists of records and keeps no state from one to the next. Sound records to make files of stand at its end.
+It goes over whole lists of records and keeps no state from one to the next. Sound records to make files of stand at its end, and what writes the cases of a program.
 """
 import datetime
 import re
@@ -448,3 +448,13 @@ def templates(letter, serial):
         record("DP", f91=ident, f96=amount(100)), record("DP", f91=ident, f96=amount(0)),
         record("BT", f99="0" * 8, f100=amount(0)),
     ]
+
+
+def write_cases(folder, book, records, table, label, says):
+    """What a program of cases is run on, and what it has to print; each case has a label of its own, so many characters wide."""
+    assert len({line[:label] for line in table}) == len(table)
+    (folder / "data").mkdir(exist_ok=True)
+    (folder / "data" / "book.bin").write_bytes(book)
+    (folder / "data" / "records.bin").write_bytes(b"".join(records))
+    (folder / "stdin").write_text("".join(line + "\n" for line in table))
+    (folder / "stdout").write_text("".join(line + "\n" for line in says))

@@ -12,7 +12,7 @@ here = pathlib.Path(__file__).parent
 sys.path.insert(0, str(here.parent.parent / "reference"))
 from srf import (  # noqa: E402
     LETTERS, PLACES, SYMBOL, VOUCHERS, amount, coded, ebcdic, faults, flagged, is_header, legal, paid_by, parsed,
-    payments_of, record, section, split, templates,
+    payments_of, record, section, split, templates, write_cases,
 )
 LABEL = 48
 
@@ -419,10 +419,4 @@ PAIRS = {
 }
 assert covered == {(field, reason, letter) for field, reasons in PAIRS.items() for reason, letters in reasons.items() for letter in letters}
 
-assert len({line[:LABEL] for line in table}) == len(table)
-
-(here / "data").mkdir(exist_ok=True)
-(here / "data" / "book.bin").write_bytes(BOOK)
-(here / "data" / "records.bin").write_bytes(b"".join(ENDS + [r for letter in LETTERS for r in TEMPLATES[letter]]))
-(here / "stdin").write_text("".join(line + "\n" for line in table))
-(here / "stdout").write_text("".join(line + "\n" for line in says))
+write_cases(here, BOOK, ENDS + [r for letter in LETTERS for r in TEMPLATES[letter]], table, LABEL, says)

@@ -14,7 +14,7 @@ here = pathlib.Path(__file__).parent
 sys.path.insert(0, str(here.parent.parent / "reference"))
 from srf import (  # noqa: E402
     FILLERS, KINDS, LETTERS, PLACES, SYMBOL, VOUCHERS, amount, code_of, coded, ebcdic, flagged, judged, record, section,
-    templates,
+    templates, write_cases,
 )
 LABEL = 48
 REPORT = 1024
@@ -534,12 +534,6 @@ for k in range(1, 121):
     add("several batches, %d" % k, batches, *[any_change(whole(batches)) for _ in range(rng.randrange(1, 6))], expect=None)
 
 assert set(answers) == set(range(14)) - {3}  # 3 takes a file of more than 55,704,750 bytes
-assert len({line[:LABEL] for line in table}) == len(table)
-
-(here / "data").mkdir(exist_ok=True)
-(here / "data" / "book.bin").write_bytes(BOOK)
-(here / "data" / "records.bin").write_bytes(b"".join(ENDS + [r for letter in LETTERS for r in TEMPLATES[letter]]))
-(here / "stdin").write_text("".join(line + "\n" for line in table))
-(here / "stdout").write_text("".join(line + "\n" for line in says))
+write_cases(here, BOOK, ENDS + [r for letter in LETTERS for r in TEMPLATES[letter]], table, LABEL, says)
 if sys.argv[1:] == ["counts"]:
     print(len(table), "cases; by answer", sorted(answers.items()), "; by reason and field", sorted(pairs.items()))
