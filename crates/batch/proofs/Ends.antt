@@ -11,6 +11,7 @@ use lib.ListN.{length}
 use Rattle.record.specs.declared.codes.Letter.{Letter}
 use Rattle.record.specs.declared.codes.Letter.the-variants.{N, C, W, I, A}
 use Rattle.record.specs.Choice.{_and_, _or_, choose}
+use Rattle.record.specs.Fields.{accountAmount, procurementAmount}
 use Rattle.record.specs.Value.{held}
 use Rattle.record.specs.Tests.{blank, digits}
 use Rattle.record.specs.Codes.{letterByte}
@@ -19,7 +20,7 @@ use Rattle.money.specs.declared.Signed.{Signed}
 use Rattle.money.specs.Money.{worth, split, cents, total, side, comesTo}
 use Rattle.money.proofs.Amounts.{worth-split}
 use Rattle.money.proofs.Sums.{added, added-total, enteredAll, entered-total}
-use Rattle.book.specs.declared.Book.{Book}
+use Rattle.book.specs.Book.{Contents}
 use Rattle.nesting.specs.Division.{Record, All, Payment}
 use Rattle.reasons.specs.declared.Finding.{Finding}
 use Rattle.reasons.specs.Findings.{found, noted, after}
@@ -29,7 +30,7 @@ use Rattle.rules.specs.declared.Context.{Context}
 use Rattle.rules.specs.Rules.{Rule, anyLetter, procurement, loneProcurement, reason, among, rows, rulesFor, findings}
 use Rattle.batch.specs.declared.payment.Open.{Open}
 use Rattle.batch.specs.Sums.{Entry, balances, allCents, procures}
-use Rattle.batch.specs.Batch.{accountAmount, procurementAmount, paid, noRecords, isCredit, entryOf, each, eachProcurement, sums}
+use Rattle.batch.specs.Batch.{paid, noRecords, betc, entryOf, each, eachProcurement, sums}
 use Rattle.batch.specs.Walk.{opened, withAccount, withProcurement, loneBlank, accountReason, procurementReason, lackReason, ended, nextProcurement}
 
 -- counts
@@ -209,113 +210,117 @@ own-first f n v xs = go (blank v)
     go true = skip f n 96 (found 1 n 96 ∷ xs)
     go false = after-append f (filled ∷ []) (found 0 n 96 ∷ xs) ∙ skip (after f (filled ∷ [])) n 96 xs ∙ sym (after-append f (filled ∷ []) xs)
 
-module _ (bytes : List ℕ) (book : Book) where
-  -- what rules find in a record of the payment
-  abbrev pub findBy : List Rule → Open → ℕ → Record → List Finding
-  findBy rules o n r = findings bytes book (o .context) n r rules
+-- what a record of the payment knows where nothing of its own is looked up: what the payment's records know
+abbrev pub same : Context → Record → Context
+same c r = c
 
-  -- records of one table
-  pub found-each : (rules : List Rule) (adds : Open → Record → Open) → ((o : Open) (r : Record) → adds o r .context ≡ o .context)
-      → (o : Open) (n : ℕ) (rs : List Record) → foundIn (findBy rules) adds o n rs ≡ each bytes book (o .context) rules n rs
-  unfolding foundIn each
-  found-each rules adds keeps o n [] = refl
-  found-each rules adds keeps o n (r ∷ rs) =
-      ap (λ (xs : List Finding). findBy rules o n r ++ xs)
-      (found-each rules adds keeps (adds o r) (n + 1) rs ∙ ap (λ (c : Context). each bytes book c rules (n + 1) rs) (keeps o r))
+-- what rules find in a record of the payment, with what it knows
+abbrev pub findBy : (Context → Record → Context) → List Rule → Open → ℕ → Record → List Finding
+findBy knows rules o n r = findings (knows (o .context) r) n r rules
 
-  -- the tables of a DP have one row
-  lone-row : (o : Open) (n : ℕ) (p : Record) → findBy (rulesFor N loneProcurement) o n p ≡ found (ifNumber (procuredBy p)) n 96 ∷ []
-  unfolding rows among loneProcurement letterByte choose _and_ _or_ findings reason
-  lone-row o n p = refl
+-- records of one table
+pub found-each : (knows : Context → Record → Context) (rules : List Rule) (adds : Open → Record → Open) → ((o : Open) (r : Record) → adds o r .context ≡ o .context)
+    → (o : Open) (n : ℕ) (rs : List Record) → foundIn (findBy knows rules) adds o n rs ≡ each (knows (o .context)) rules n rs
+unfolding foundIn each
+found-each knows rules adds keeps o n [] = refl
+found-each knows rules adds keeps o n (r ∷ rs) =
+    ap (λ (xs : List Finding). findBy knows rules o n r ++ xs)
+    (found-each knows rules adds keeps (adds o r) (n + 1) rs ∙ ap (λ (c : Context). each (knows c) rules (n + 1) rs) (keeps o r))
 
-  row : (o : Open) (n : ℕ) (p : Record) → findBy (rulesFor N procurement) o n p ≡ found (number (procuredBy p)) n 96 ∷ []
-  unfolding rows among procurement letterByte choose _and_ _or_ findings reason
-  row o n p = refl
+-- the tables of a DP have one row
+lone-row : (o : Open) (n : ℕ) (p : Record) → findBy same (rulesFor N loneProcurement) o n p ≡ found (ifNumber (procuredBy p)) n 96 ∷ []
+unfolding rows among loneProcurement letterByte choose _and_ _or_ findings reason
+lone-row o n p = refl
 
-  -- what a first DP finds, a second, and a later one
-  next-first : (o : Open) (n : ℕ) (p : Record) → o .procurements ≡ 0
-      → nextProcurement bytes book o n p ≡ found 0 (n - 1) 96 ∷ findBy (rulesFor N loneProcurement) o n p
-  unfolding nextProcurement loneBlank choose
-  next-first o n p e = rw e
+row : (o : Open) (n : ℕ) (p : Record) → findBy same (rulesFor N procurement) o n p ≡ found (number (procuredBy p)) n 96 ∷ []
+unfolding rows among procurement letterByte choose _and_ _or_ findings reason
+row o n p = refl
 
-  next-second : (o : Open) (n : ℕ) (p q : Record) → o .procurements ≡ 0
-      → nextProcurement bytes book (plusProcurement o p) (n + 1) q
-      ≡ found (choose (blank (procuredBy p)) 1 0) n 96 ∷ findBy (rulesFor N procurement) o (n + 1) q
-  unfolding nextProcurement loneBlank withProcurement choose
-  next-second o n p q e =
-      let b : n + 1 - 1 ≡ n = omega arith in
-      rw (e, b)
+-- what a first DP finds, a second, and a later one
+next-first : (o : Open) (n : ℕ) (p : Record) → o .procurements ≡ 0
+    → nextProcurement o n p ≡ found 0 (n - 1) 96 ∷ findBy same (rulesFor N loneProcurement) o n p
+unfolding nextProcurement loneBlank choose
+next-first o n p e = rw e
 
-  next-later : (o : Open) (n : ℕ) (p : Record) → 2 ≤ o .procurements
-      → nextProcurement bytes book o n p ≡ found 0 (n - 1) 96 ∷ findBy (rulesFor N procurement) o n p
-  unfolding nextProcurement loneBlank choose
-  next-later o n p h =
-      let a : eqb (o .procurements) 0 ≡ false = ne-eqb (o .procurements) 0 (λ (q : o .procurements ≡ 0). omega (arith, h, q)) in
-      let b : eqb (o .procurements) 1 ≡ false = ne-eqb (o .procurements) 1 (λ (q : o .procurements ≡ 1). omega (arith, h, q)) in
-      rw (a, b)
+next-second : (o : Open) (n : ℕ) (p q : Record) → o .procurements ≡ 0
+    → nextProcurement (plusProcurement o p) (n + 1) q
+    ≡ found (choose (blank (procuredBy p)) 1 0) n 96 ∷ findBy same (rulesFor N procurement) o (n + 1) q
+unfolding nextProcurement loneBlank withProcurement choose
+next-second o n p q e =
+    let b : n + 1 - 1 ≡ n = omega arith in
+    rw (e, b)
 
-  -- DP of one payment
-  abbrev nextIn : Open → ℕ → List Record → List Finding
-  nextIn = foundIn (nextProcurement bytes book) plusProcurement
+next-later : (o : Open) (n : ℕ) (p : Record) → 2 ≤ o .procurements
+    → nextProcurement o n p ≡ found 0 (n - 1) 96 ∷ findBy same (rulesFor N procurement) o n p
+unfolding nextProcurement loneBlank choose
+next-later o n p h =
+    let a : eqb (o .procurements) 0 ≡ false = ne-eqb (o .procurements) 0 (λ (q : o .procurements ≡ 0). omega (arith, h, q)) in
+    let b : eqb (o .procurements) 1 ≡ false = ne-eqb (o .procurements) 1 (λ (q : o .procurements ≡ 1). omega (arith, h, q)) in
+    rw (a, b)
 
-  -- from the third on
-  found-later : (f : Finding) (o : Open) (n : ℕ) (ps : List Record) → 2 ≤ o .procurements
-      → after f (nextIn o n ps) ≡ after f (each bytes book (o .context) (rulesFor N procurement) n ps)
-  unfolding foundIn each withProcurement
-  found-later f o n [] h = refl
-  found-later f o n (p ∷ ps) h =
-      let own = findBy (rulesFor N procurement) o n p in
-      let more = nextIn (plusProcurement o p) (n + 1) ps in
-      ap (λ (xs : List Finding). after f (xs ++ more)) (next-later o n p h)
-      ∙ skip f (n - 1) 96 (own ++ more)
-      ∙ after-append f own more
-      ∙ found-later (after f own) (plusProcurement o p) (n + 1) ps (omega (arith, h))
-      ∙ sym (after-append f own (each bytes book (o .context) (rulesFor N procurement) (n + 1) ps))
+-- DP of one payment
+abbrev nextIn : Open → ℕ → List Record → List Finding
+nextIn = foundIn (nextProcurement) plusProcurement
 
-  -- two or more
-  found-several : (f : Finding) (o : Open) (n : ℕ) (p q : Record) (ps : List Record) → o .procurements ≡ 0
-      → after f (nextIn o n (p ∷ q ∷ ps)) ≡ after f (each bytes book (o .context) (rulesFor N procurement) n (p ∷ q ∷ ps))
-  unfolding foundIn each withProcurement
-  found-several f o n p q ps e =
-      let own = findBy (rulesFor N procurement) o (n + 1) q in
-      let begun = found (ifNumber (procuredBy p)) n 96 ∷ found (choose (blank (procuredBy p)) 1 0) n 96 ∷ own in
-      let next = plusProcurement (plusProcurement o p) q in
-      let more = nextIn next (n + 1 + 1) ps in
-      let rest = each bytes book (o .context) (rulesFor N procurement) (n + 1 + 1) ps in
-      (λ i. after f (next-first o n p e i ++ (next-second o n p q e i ++ more)))
-      ∙ skip f (n - 1) 96 _
-      ∙ (λ i. after f (lone-row o n p i ++ (found (choose (blank (procuredBy p)) 1 0) n 96 ∷ (own ++ more))))
-      ∙ after-append f begun more
-      ∙ found-later (after f begun) next (n + 1 + 1) ps (omega (arith, e))
-      ∙ sym (after-append f begun rest)
-      ∙ own-first f n (procuredBy p) (own ++ rest)
-      ∙ ap (λ (xs : List Finding). after f (xs ++ (own ++ rest))) (sym (row o n p))
+-- from the third on
+found-later : (f : Finding) (o : Open) (n : ℕ) (ps : List Record) → 2 ≤ o .procurements
+    → after f (nextIn o n ps) ≡ after f (each (same (o .context)) (rulesFor N procurement) n ps)
+unfolding foundIn each withProcurement
+found-later f o n [] h = refl
+found-later f o n (p ∷ ps) h =
+    let own = findBy same (rulesFor N procurement) o n p in
+    let more = nextIn (plusProcurement o p) (n + 1) ps in
+    ap (λ (xs : List Finding). after f (xs ++ more)) (next-later o n p h)
+    ∙ skip f (n - 1) 96 (own ++ more)
+    ∙ after-append f own more
+    ∙ found-later (after f own) (plusProcurement o p) (n + 1) ps (omega (arith, h))
+    ∙ sym (after-append f own (each (same (o .context)) (rulesFor N procurement) (n + 1) ps))
 
-  -- any number
-  pub found-procurements : (l : Letter) (f : Finding) (o : Open) (n : ℕ) (ps : List Record) → o .procurements ≡ 0
-      → after f (foundIn (nextProcurement bytes book) plusProcurement o n ps) ≡ after f (eachProcurement bytes book l (o .context) n ps)
-  unfolding foundIn each eachProcurement procurement loneProcurement
-  found-procurements l f o n [] e = refl
-  found-procurements l f o n (p ∷ []) e =
-      ap (λ (xs : List Finding). after f (xs ++ [])) (next-first o n p e)
-      ∙ skip f (n - 1) 96 _
-      ∙ ap (λ (rs : List Rule). after f (each bytes book (o .context) rs n (p ∷ []))) (letterless l loneProcurement (refl, tt))
-  found-procurements l f o n (p ∷ q ∷ ps) e =
-      found-several f o n p q ps e
-      ∙ ap (λ (rs : List Rule). after f (each bytes book (o .context) rs n (p ∷ q ∷ ps))) (letterless l procurement (refl, tt))
+-- two or more
+found-several : (f : Finding) (o : Open) (n : ℕ) (p q : Record) (ps : List Record) → o .procurements ≡ 0
+    → after f (nextIn o n (p ∷ q ∷ ps)) ≡ after f (each (same (o .context)) (rulesFor N procurement) n (p ∷ q ∷ ps))
+unfolding foundIn each withProcurement
+found-several f o n p q ps e =
+    let own = findBy same (rulesFor N procurement) o (n + 1) q in
+    let begun = found (ifNumber (procuredBy p)) n 96 ∷ found (choose (blank (procuredBy p)) 1 0) n 96 ∷ own in
+    let next = plusProcurement (plusProcurement o p) q in
+    let more = nextIn next (n + 1 + 1) ps in
+    let rest = each (same (o .context)) (rulesFor N procurement) (n + 1 + 1) ps in
+    (λ i. after f (next-first o n p e i ++ (next-second o n p q e i ++ more)))
+    ∙ skip f (n - 1) 96 _
+    ∙ (λ i. after f (lone-row o n p i ++ (found (choose (blank (procuredBy p)) 1 0) n 96 ∷ (own ++ more))))
+    ∙ after-append f begun more
+    ∙ found-later (after f begun) next (n + 1 + 1) ps (omega (arith, e))
+    ∙ sym (after-append f begun rest)
+    ∙ own-first f n (procuredBy p) (own ++ rest)
+    ∙ ap (λ (xs : List Finding). after f (xs ++ (own ++ rest))) (sym (row o n p))
 
+-- any number
+pub found-procurements : (l : Letter) (f : Finding) (o : Open) (n : ℕ) (ps : List Record) → o .procurements ≡ 0
+    → after f (foundIn (nextProcurement) plusProcurement o n ps) ≡ after f (eachProcurement l (o .context) n ps)
+unfolding foundIn each eachProcurement procurement loneProcurement
+found-procurements l f o n [] e = refl
+found-procurements l f o n (p ∷ []) e =
+    ap (λ (xs : List Finding). after f (xs ++ [])) (next-first o n p e)
+    ∙ skip f (n - 1) 96 _
+    ∙ ap (λ (rs : List Rule). after f (each (same (o .context)) rs n (p ∷ []))) (letterless l loneProcurement (refl, tt))
+found-procurements l f o n (p ∷ q ∷ ps) e =
+    found-several f o n p q ps e
+    ∙ ap (λ (rs : List Rule). after f (each (same (o .context)) rs n (p ∷ q ∷ ps))) (letterless l procurement (refl, tt))
+
+module _ (book : Contents) where
   abbrev pub plusAccount : Open → Record → Open
-  plusAccount o t = withAccount o (isCredit bytes book t) (cents (held t accountAmount))
+  plusAccount o t = withAccount o (betc book t .flagged) (cents (held t accountAmount))
 
   -- DT add to their count and to the signed sum
   accounts-counted : (o : Open) (ts : List Record)
-      → let es = map (entryOf bytes book) ts in
+      → let es = map (entryOf book) ts in
       grown plusAccount o ts ≡ counted o (o .accounts + length es) (enteredAll (o .sum) es) (o .procurements) (o .blank) (o .procured)
   unfolding grown withAccount enteredAll entryOf
   accounts-counted o [] = λ i. counted o (none-more (o .accounts) i) (o .sum) (o .procurements) (o .blank) (o .procured)
   accounts-counted o (t ∷ ts) =
-      let es = map (entryOf bytes book) ts in
-      let sum = enteredAll (o .sum) (entryOf bytes book t ∷ es) in
+      let es = map (entryOf book) ts in
+      let sum = enteredAll (o .sum) (entryOf book t ∷ es) in
       accounts-counted (plusAccount o t) ts
       ∙ (λ i. counted o (one-more (o .accounts) (length es) i) sum (o .procurements) (o .blank) (o .procured))
 
@@ -327,10 +332,10 @@ module _ (bytes : List ℕ) (book : Book) where
       (ap (λ (u : Open). u .context) e, ap (λ (u : Open). u .procurements) e)
 
   accounts-end : (n : ℕ) (c : Context) (a : ℕ) (ts : List Record)
-      → grown plusAccount (opened n c (split a)) ts ≡ standing n c a (map (entryOf bytes book) ts) []
+      → grown plusAccount (opened n c (split a)) ts ≡ standing n c a (map (entryOf book) ts) []
   unfolding opened firstBlank allCents total
   accounts-end n c a ts =
-      let es = map (entryOf bytes book) ts in
+      let es = map (entryOf book) ts in
       let o = standing n c a es [] in
       let e : enteredAll (record { positive = split 0; negative = split 0 }) es ≡ o .sum =
       entered-total es 0 0
@@ -339,20 +344,20 @@ module _ (bytes : List ℕ) (book : Book) where
 
   -- 11
   lack-end : (n : ℕ) (c : Context) (a : ℕ) (ts : List Record) (vs : List (List ℕ))
-      → lackReason (standing n c a (map (entryOf bytes book) ts) vs) ≡ choose (c .reporter and noRecords ts) 11 0
+      → lackReason (standing n c a (map (entryOf book) ts) vs) ≡ choose (c .reporter and noRecords ts) 11 0
   unfolding lackReason noRecords
   lack-end n c a [] vs = refl
-  lack-end n c a (t ∷ ts) vs = rw (not-none (length (map (entryOf bytes book) ts)))
+  lack-end n c a (t ∷ ts) vs = rw (not-none (length (map (entryOf book) ts)))
 
   -- a payment after all its records
   abbrev pub endOf : ℕ → Context → Payment → Open
   endOf n c p = grown plusProcurement (grown plusAccount (opened n c (split (paid p))) (p .accounts)) (p .procurements)
 
   -- what is wrong with its sums
-  pub sums-end : (n : ℕ) (c : Context) (p : Payment) → ended (endOf n c p) ≡ sums bytes book (c .reporter) n p
+  pub sums-end : (n : ℕ) (c : Context) (p : Payment) → ended (endOf n c p) ≡ sums book (c .reporter) n p
   unfolding ended sums
   sums-end n c p =
-      let es = map (entryOf bytes book) (p .accounts) in
+      let es = map (entryOf book) (p .accounts) in
       let vs = map procuredBy (p .procurements) in
       rw (accounts-end n c (paid p) (p .accounts), procured-end n c (paid p) es (p .procurements))
       (λ i. found (account-end n c (paid p) es vs i) n 87

@@ -6,7 +6,7 @@ use mathlib.Core.List.{List, [], _∷_}
 use Prim.Native.Nat.{ℕ, suc, _+_, _-_, _/_, _≤_}
 use native.Mathlib.Omega.{arith}
 use lib.ListN.{length, drop}
-use Rattle.book.specs.declared.Book.{Book}
+use Rattle.book.specs.Book.{Contents}
 use Rattle.nesting.specs.Division.{Record, Batch, paymentsOnto, batchLines}
 use Rattle.nesting.specs.Records.{cut}
 use Rattle.nesting.proofs.Cuts.{cut-length}
@@ -54,15 +54,15 @@ module _ (part : List ℕ) (n : ℕ) (b : Batch) (h : BatchOf n part b) where
   unfolding othersOf
   others-are = ap othersOf lines-are
 
-  pub judged : (bytes : List ℕ) (book : Book) (repeats : Bool) (rep : Repeat) (s : State) → rep ≡ firstRepeat Payments n [] (cut n (length part / 850) part)
-      → s ≡ walked bytes book part n repeats rep
-      → (row : Row) → row ≡ rowAt s n (length part / 850) → row ≡ rowOf bytes book repeats n b
+  pub judged : (book : Contents) (repeats : Bool) (rep : Repeat) (s : State) → rep ≡ firstRepeat Payments n [] (cut n (length part / 850) part)
+      → s ≡ walked book part n repeats rep
+      → (row : Row) → row ≡ rowAt s n (length part / 850) → row ≡ rowOf book repeats n b
   unfolding rowAt rowOf
-  judged bytes book repeats rep s e w row q =
+  judged book repeats rep s e w row q =
       let marks : rep ≡ firstRepeat Payments n [] (batchLines b) = e ∙ ap (firstRepeat Payments n []) (sym (h .whole)) in
-      let k : s ≡ run bytes book (isAt rep) (n + 1) (opening bytes book repeats n (b .header)) (paymentsOnto (b .payments) (b .trailer ∷ [])) = rw (header-is, others-are) w in
-      let a = adequate bytes book repeats (isAt rep) n b (h .legal) s k in
-      let f = a .0 ∙ ap (λ (r : Repeat). first (markedFindings bytes book repeats (isAt r) n b)) marks ∙ first-repeat-enough bytes book repeats n b (h .legal) in
+      let k : s ≡ run book (isAt rep) (n + 1) (opening book repeats n (b .header)) (paymentsOnto (b .payments) (b .trailer ∷ [])) = rw (header-is, others-are) w in
+      let a = adequate book repeats (isAt rep) n b (h .legal) s k in
+      let f = a .0 ∙ ap (λ (r : Repeat). first (markedFindings book repeats (isAt r) n b)) marks ∙ first-repeat-enough book repeats n b (h .legal) in
       let c = sym records-are in
       let p = a .1 in
       let t = a .2 in

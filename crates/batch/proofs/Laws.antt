@@ -10,29 +10,29 @@ use Rattle.record.specs.declared.codes.Letter.{Letter}
 use Rattle.record.specs.declared.codes.Letter.the-variants.{N}
 use Rattle.record.specs.declared.codes.Code.{Code}
 use Rattle.record.specs.Choice.{_and_, choose}
+use Rattle.record.specs.Fields.{summaryTotalAmount, agencyLocationCode, checkSymbolNumber, amount, accountAmount, procurementAmount}
 use Rattle.record.specs.Value.{held}
 use Rattle.record.specs.Tests.{blank}
 use Rattle.record.specs.Codes.{codeOf}
 use Rattle.money.specs.declared.Amount.{Amount}
 use Rattle.money.specs.Money.{worth, split, cents}
 use Rattle.money.proofs.Amounts.{worth-split}
-use Rattle.book.specs.declared.Book.{Book}
-use Rattle.book.specs.Book.{flagOf}
+use Rattle.book.specs.declared.search.Listing.{Listing}
+use Rattle.book.specs.Book.{Contents}
 use Rattle.nesting.specs.Division.{Record}
 use Rattle.repeats.specs.declared.Repeat.{Repeat}
 use Rattle.repeats.specs.declared.Repeat.the-variants.{At, Nowhere}
 use Rattle.reasons.specs.declared.Finding.{Finding}
 use Rattle.reasons.specs.Findings.{sound, after}
-use Rattle.reasons.specs.declared.lookups.Shelf.the-variants.{Locations}
-use Rattle.reasons.specs.Reasons.{entry}
 use Rattle.reasons.proofs.Firsts.{after-append}
+use Rattle.rules.specs.declared.Codes.{Codes}
 use Rattle.rules.specs.declared.Context.{Context}
-use Rattle.rules.specs.Rules.{Rule, symbolField, among, check, header, detail, party, account, procurement, loneProcurement, rulesFor, findings}
+use Rattle.rules.specs.Rules.{Rule, among, check, header, detail, party, account, procurement, loneProcurement, rulesFor, findings}
 use Rattle.batch.specs.declared.payment.Open.{Open}
 use Rattle.batch.specs.declared.walk.Header.{Header}
 use Rattle.batch.specs.declared.walk.State.{State}
-use Rattle.batch.specs.Batch.{summaryTotal, agencyLocation, amount, accountAmount, procurementAmount, letterIn, firstSerial, isReporter, isCredit}
-use Rattle.batch.specs.Walk.{isAt, opened, withAccount, withProcurement, ended, contextOf, knowing, head, opening, reporterIn, nextProcurement, last, detailed, partied, accounted, procured, trailed, stepOf}
+use Rattle.batch.specs.Batch.{letterIn, firstSerial, noCodes, location, betc, withCodes, locationOnly, betcOnly, detailCodes, accountContext}
+use Rattle.batch.specs.Walk.{isAt, opened, withAccount, withProcurement, ended, contextOf, knowing, head, opening, payerIn, payingContext, nextProcurement, last, detailed, partied, accounted, procured, trailed, stepOf}
 
 -- which record repeats
 pub repeat-at : (r : Repeat) (k n : ℕ) (x : Bool) → r ≡ At k → x ≡ eqb k n → x ≡ isAt r n
@@ -87,71 +87,88 @@ module _ (o : Open) (b : Bool) (n : ℕ) (a : Amount) where
   unfolding withProcurement choose
   procured-later e h = rw (ne-eqb (o .procurements) 0 e, h)
 
-module _ (bytes : List ℕ) (book : Book) (n : ℕ) (r : Record) where
+module _ (n : ℕ) (r : Record) where
   -- the rules of a first DP, and of a later one
   module _ (c : Context) (f z : Finding) (k : ℕ) where
-    pub own-lone : k ≡ 0 → z ≡ after f (findings bytes book c n r (rulesFor N loneProcurement)) → z ≡ after f (findings bytes book c n r (rulesFor N (choose (eqb k 0) loneProcurement procurement)))
+    pub own-lone : k ≡ 0 → z ≡ after f (findings c n r (rulesFor N loneProcurement)) → z ≡ after f (findings c n r (rulesFor N (choose (eqb k 0) loneProcurement procurement)))
     unfolding choose
     own-lone e h = rw (eq-eqb k 0 e) h
 
-    pub own-other : (k ≡ 0 → ⊥) → z ≡ after f (findings bytes book c n r (rulesFor N procurement)) → z ≡ after f (findings bytes book c n r (rulesFor N (choose (eqb k 0) loneProcurement procurement)))
+    pub own-other : (k ≡ 0 → ⊥) → z ≡ after f (findings c n r (rulesFor N procurement)) → z ≡ after f (findings c n r (rulesFor N (choose (eqb k 0) loneProcurement procurement)))
     unfolding choose
     own-other e h = rw (ne-eqb k 0 e) h
 
+  -- the context of a record that has no codes
+  pub emptied : (s : State) (k : Codes) (c : Context) (repeats reporter : Bool) → k ≡ noCodes → c ≡ contextOf s repeats reporter k → c ≡ contextOf s repeats reporter noCodes
+  emptied s k c repeats reporter e h = h ∙ rw e
+
+  -- the rules see the context that was put together
+  pub in-context : (c d : Context) (f z : Finding) (rs : List Rule) → c ≡ d → z ≡ after f (findings c n r rs) → z ≡ after f (findings d n r rs)
+  in-context c d f z rs e h = rw (← e) h
+
+  -- the state after a DX, a DP and a BT
+  module _ (s z : State) where
+    pub party-taken : (f : Finding) → f ≡ after (s .finding) (findings (s .payment .context) n r (rulesFor (s .header .letter) party))
+        → z ≡ knowing s f (s .payment) (s .accounts) → z ≡ partied s n r
+    unfolding partied
+    party-taken f e h = h ∙ rw e
+
+    pub procurement-taken : (f : Finding) (bare : Bool) (a : Amount) (o : Open) → f ≡ after (s .finding) (nextProcurement (s .payment) n r)
+        → bare ≡ blank (held r procurementAmount) → a ≡ split (cents (held r procurementAmount)) → o ≡ withProcurement (s .payment) bare (worth a)
+        → z ≡ knowing s f o (s .accounts) → z ≡ procured s n r
+    unfolding procured
+    procurement-taken f bare a o e c d k h = h ∙ rw (k, e, c, d, worth-split)
+
+    pub trailer-taken : (g f : Finding) → g ≡ after (s .finding) (ended (s .payment)) → f ≡ after g (last s n r)
+        → z ≡ knowing s f (s .payment) (s .accounts) → z ≡ trailed s n r
+    unfolding trailed
+    trailer-taken g f e d h = h ∙ rw (d, e)
+
+module _ (book : Contents) (n : ℕ) (r : Record) where
   -- the state after a header
   abbrev zero-amount : Amount
   zero-amount = record { high = 0; low = 0 }
 
-  pub batch-opened : (repeats : Bool) (h : Header) (f : Finding) (o : Open) → h ≡ head bytes book n r
-      → f ≡ after sound (findings bytes book (record { repeats = repeats; reporter = false; symbol = h .symbol; serial = h .serial; payments = 0; total = zero-amount }) n r (rulesFor (h .letter) header))
-      → o ≡ opened n (record { repeats = repeats; reporter = false; symbol = h .symbol; serial = h .serial; payments = 0; total = zero-amount }) zero-amount
-      → record { finding = f; header = h; payment = o; payments = 0; total = zero-amount; accounts = 0 } ≡ opening bytes book repeats n r
+  abbrev headed : Codes → Bool → Header → Context
+  headed k repeats h =
+      record { repeats = repeats; reporter = false; codes = k; symbol = h .symbol; serial = h .serial; payments = 0; total = zero-amount }
+
+  pub batch-opened : (repeats : Bool) (h : Header) (f : Finding) (o : Open) → h ≡ head book n r
+      → (k : Codes) → k ≡ locationOnly (h .payer .listed)
+      → f ≡ after sound (findings (headed k repeats h) n r (rulesFor (h .letter) header)) → o ≡ opened n (headed k repeats h) zero-amount
+      → record { finding = f; header = h; payment = o; payments = 0; total = zero-amount; accounts = 0 } ≡ opening book repeats n r
   unfolding opening head split
-  batch-opened repeats h f o e d k = rw (d, k, e)
+  batch-opened repeats h f o e k c d q = rw (d, q, c, e)
 
   -- what the header says
-  pub head-read : (c : Code) (l : Letter) (reporter : Bool) (symbol : List ℕ) (serial : ℕ) (a : Amount) → c ≡ codeOf r → l ≡ letterIn c → reporter ≡ flagOf (entry bytes book Locations (held r agencyLocation))
-      → symbol ≡ held r symbolField → serial ≡ firstSerial r → a ≡ split (cents (held r summaryTotal))
-      → record { number = n; letter = l; reporter = reporter; symbol = symbol; serial = serial; amount = a } ≡ head bytes book n r
-  unfolding head isReporter
-  head-read c l reporter symbol serial a p q u v w x = rw (x, w, v, u, q, p)
+  pub head-read : (c : Code) (l : Letter) (payer : Listing) (symbol : List ℕ) (serial : ℕ) (a : Amount) → c ≡ codeOf r → l ≡ letterIn c → payer ≡ location book (held r agencyLocationCode)
+      → symbol ≡ held r checkSymbolNumber → serial ≡ firstSerial r → a ≡ split (cents (held r summaryTotalAmount))
+      → record { number = n; letter = l; payer = payer; symbol = symbol; serial = serial; amount = a } ≡ head book n r
+  unfolding head
+  head-read c l payer symbol serial a p q u v w x = rw (x, w, v, u, q, p)
 
-  -- the rules see the context that was put together
-  pub in-context : (c d : Context) (f z : Finding) (rs : List Rule) → c ≡ d → z ≡ after f (findings bytes book c n r rs) → z ≡ after f (findings bytes book d n r rs)
-  in-context c d f z rs e h = rw (← e) h
+  -- what the rules of a payment's records know
+  pub paying : (s : State) (repeats : Bool) (l : Listing) (k : Codes) (c : Context) → l ≡ payerIn book (s .header) r → k ≡ detailCodes book (l .listed) r
+      → c ≡ contextOf s repeats (l .flagged) k → c ≡ payingContext book s repeats r
+  unfolding payingContext
+  paying s repeats l k c p q h = h ∙ rw (q, p)
 
-  -- the state after each of the other records
+  -- the state after a detail and a DT
   module _ (s : State) where
-    pub detail-taken : (repeats reporter : Bool) (c : Context) (g f : Finding) (a t : Amount) (o : Open) → reporter ≡ reporterIn bytes book (s .header) r → c ≡ contextOf s repeats reporter
-        → g ≡ after (s .finding) (ended (s .payment)) → f ≡ after g (findings bytes book c n r (rulesFor (s .header .letter) detail))
+    pub detail-taken : (repeats : Bool) (c : Context) (g f : Finding) (a t : Amount) (o : Open) → c ≡ payingContext book s repeats r
+        → g ≡ after (s .finding) (ended (s .payment)) → f ≡ after g (findings c n r (rulesFor (s .header .letter) detail))
         → a ≡ split (cents (held r amount)) → o ≡ opened n c a → t ≡ split (worth (s .total) + worth a)
-        → record { finding = f; header = s .header; payment = o; payments = s .payments + 1; total = t; accounts = s .accounts } ≡ detailed bytes book s n r repeats
+        → record { finding = f; header = s .header; payment = o; payments = s .payments + 1; total = t; accounts = s .accounts } ≡ detailed book s n r repeats
     unfolding detailed
-    detail-taken repeats reporter c g f a t o p q u v w x y = rw (y, x, w, v, u, q, p, worth-split)
+    detail-taken repeats c g f a t o q u v w x y = rw (y, x, w, v, u, q, worth-split)
 
   module _ (s z : State) where
-    pub party-taken : (f : Finding) → f ≡ after (s .finding) (findings bytes book (s .payment .context) n r (rulesFor (s .header .letter) party))
-        → z ≡ knowing s f (s .payment) (s .accounts) → z ≡ partied bytes book s n r
-    unfolding partied
-    party-taken f e h = h ∙ rw e
-
-    pub account-taken : (f : Finding) (credit : Bool) (a : Amount) (o : Open) → f ≡ after (s .finding) (findings bytes book (s .payment .context) n r (rulesFor N account))
-        → credit ≡ isCredit bytes book r → a ≡ split (cents (held r accountAmount)) → o ≡ withAccount (s .payment) credit (worth a)
-        → z ≡ knowing s f o (s .accounts + 1) → z ≡ accounted bytes book s n r
-    unfolding accounted
-    account-taken f credit a o e c d k h = h ∙ rw (k, e, c, d, worth-split)
-
-    pub procurement-taken : (f : Finding) (bare : Bool) (a : Amount) (o : Open) → f ≡ after (s .finding) (nextProcurement bytes book (s .payment) n r)
-        → bare ≡ blank (held r procurementAmount) → a ≡ split (cents (held r procurementAmount)) → o ≡ withProcurement (s .payment) bare (worth a)
-        → z ≡ knowing s f o (s .accounts) → z ≡ procured bytes book s n r
-    unfolding procured
-    procurement-taken f bare a o e c d k h = h ∙ rw (k, e, c, d, worth-split)
-
-    pub trailer-taken : (g f : Finding) → g ≡ after (s .finding) (ended (s .payment)) → f ≡ after g (last bytes book s n r)
-        → z ≡ knowing s f (s .payment) (s .accounts) → z ≡ trailed bytes book s n r
-    unfolding trailed
-    trailer-taken g f e d h = h ∙ rw (d, e)
+    pub account-taken : (f : Finding) (l : Listing) (k : Codes) (c : Context) (a : Amount) (o : Open) → l ≡ betc book r → k ≡ betcOnly (l .listed) → c ≡ withCodes (s .payment .context) k
+        → f ≡ after (s .finding) (findings c n r (rulesFor N account)) → a ≡ split (cents (held r accountAmount)) → o ≡ withAccount (s .payment) (l .flagged) (worth a)
+        → z ≡ knowing s f o (s .accounts + 1) → z ≡ accounted book s n r
+    unfolding accounted accountContext
+    account-taken f l k c a o p q u e d w h = h ∙ rw (w, e, u, q, p, d, worth-split)
 
     -- the step of the code that is known
-    pub stepped : (c d : Code) (repeats : Bool) → c ≡ codeOf r → c ≡ d → z ≡ stepOf bytes book d s n r repeats → z ≡ stepOf bytes book (codeOf r) s n r repeats
-    stepped c d repeats e k h = h ∙ ap (λ (x : Code). stepOf bytes book x s n r repeats) (sym k ∙ e)
+    pub stepped : (c d : Code) (repeats : Bool) → c ≡ codeOf r → c ≡ d → z ≡ stepOf book d s n r repeats → z ≡ stepOf book (codeOf r) s n r repeats
+    stepped c d repeats e k h = h ∙ ap (λ (x : Code). stepOf book x s n r repeats) (sym k ∙ e)

@@ -3,24 +3,24 @@
 use mathlib.Core.Bool.{Bool, false}
 use mathlib.Core.List.{List, [], _∷_, _++_}
 use Prim.Native.Nat.{ℕ, _+_}
-use Rattle.book.specs.declared.Book.{Book}
+use Rattle.book.specs.Book.{Contents}
 use Rattle.nesting.specs.Division.{Record, Payment, Batch}
 use Rattle.reasons.specs.declared.Finding.{Finding}
 use Rattle.rules.specs.Rules.{header, trailer, rulesFor, findings}
-use Rattle.batch.specs.Batch.{letterOf, size, sizes, context, reporter, payment, tooMany, summary}
+use Rattle.batch.specs.Batch.{letterOf, size, sizes, context, noCodes, headerCodes, detailContext, payment, tooMany, summary}
 
-module _ (bytes : List ℕ) (book : Book) where
+module _ (book : Contents) where
   unfoldable pub markedPayments : (ℕ → Bool) → Record → ℕ → List Payment → List Payment → List Finding
   markedPayments marks h n earlier [] = []
   markedPayments marks h n earlier (p ∷ ps) =
-      payment bytes book (letterOf h) (context h (marks n) (reporter bytes book h (p .detail)) earlier) n p
+      payment book (letterOf h) (detailContext book h (marks n) earlier (p .detail)) n p
       ++ markedPayments marks h (n + size p) (earlier ++ p ∷ []) ps
 
   unfoldable pub markedFindings : Bool → (ℕ → Bool) → ℕ → Batch → List Finding
   markedFindings repeats marks n b =
-      findings bytes book (context (b .header) repeats false []) n (b .header) (rulesFor (letterOf (b .header)) header)
+      findings (context (b .header) repeats false (headerCodes book (b .header)) []) n (b .header) (rulesFor (letterOf (b .header)) header)
       ++ (markedPayments marks (b .header) (n + 1) [] (b .payments)
       ++ (tooMany n (b .payments)
-      ∷ (findings bytes book (context (b .header) false false (b .payments)) (n + 1 + sizes (b .payments)) (b .trailer) (rulesFor (letterOf (b .header)) trailer)
+      ∷ (findings (context (b .header) false false noCodes (b .payments)) (n + 1 + sizes (b .payments)) (b .trailer) (rulesFor (letterOf (b .header)) trailer)
       ++ summary n (b .header) (b .payments)
       ∷ [])))

@@ -9,6 +9,7 @@ use lib.ListN.{length}
 use Rattle.record.specs.declared.Field.{Field}
 use Rattle.record.specs.declared.Line.{Line}
 use Rattle.record.specs.Choice.{choose}
+use Rattle.record.specs.Fields.{checkFirstSerialNumber}
 use Rattle.record.specs.Value.{Has, seen, held}
 use Rattle.record.specs.Tests.{digits}
 use Rattle.record.specs.Numeral.{numeral}
@@ -17,14 +18,15 @@ use Rattle.record.proofs.Numbers.{numeral-below}
 use Rattle.money.specs.declared.Amount.{Amount}
 use Rattle.money.specs.Money.{worth, split, cents, Whole, Fit}
 use Rattle.money.proofs.Amounts.{worth-split, split-whole, cents-below}
-use Rattle.book.specs.declared.Book.{Book}
+use Rattle.book.specs.Book.{Contents}
+use Rattle.rules.specs.declared.Codes.{Codes}
 use Rattle.rules.specs.declared.Context.{Context}
-use Rattle.rules.specs.Rules.{Kept, firstSerialField}
+use Rattle.rules.specs.Rules.{Kept}
 use Rattle.batch.specs.declared.payment.Open.{Open}
 use Rattle.batch.specs.declared.walk.Header.{Header}
 use Rattle.batch.specs.declared.walk.State.{State}
-use Rattle.batch.specs.Batch.{firstSerial}
-use Rattle.batch.specs.Walk.{Small, Own, Room, contextOf, head}
+use Rattle.batch.specs.Batch.{firstSerial, withCodes}
+use Rattle.batch.specs.Walk.{Small, Own, Room, contextOf, payingContext, head}
 
 -- an amount that was read from a field of twenty bytes
 pub small-cents : (xs : List ℕ) → length xs ≤ 20 → Small 1 (split (cents xs))
@@ -60,19 +62,19 @@ own-later n m o h s =
 -- what a header's serial number can be
 pub serial-below : (line : Line) (rec : List ℕ) → length rec ≡ 850 → firstSerial (seen line rec) < 100000000
 unfolding firstSerial choose
-serial-below line rec e = go (digits (held (seen line rec) firstSerialField)) refl
+serial-below line rec e = go (digits (held (seen line rec) checkFirstSerialNumber)) refl
   where
-    go : (b : Bool) → digits (held (seen line rec) firstSerialField) ≡ b → choose (digits (held (seen line rec) firstSerialField)) (numeral (held (seen line rec) firstSerialField)) 0 < 100000000
+    go : (b : Bool) → digits (held (seen line rec) checkFirstSerialNumber) ≡ b → choose (digits (held (seen line rec) checkFirstSerialNumber)) (numeral (held (seen line rec) checkFirstSerialNumber)) 0 < 100000000
     go true d =
-        let n : length (held (seen line rec) firstSerialField) ≡ 8 = held-length line rec firstSerialField (omega arith, omega arith) in
-        rw d (omega (arith, rw n at (numeral-below (held (seen line rec) firstSerialField) d)))
+        let n : length (held (seen line rec) checkFirstSerialNumber) ≡ 8 = held-length line rec checkFirstSerialNumber (omega arith, omega arith) in
+        rw d (omega (arith, rw n at (numeral-below (held (seen line rec) checkFirstSerialNumber) d)))
     go false d = rw d (omega arith)
 
 -- what the header's rules know
-pub kept-header : (bytes : List ℕ) (book : Book) (n : ℕ) (line : Line) (rec : List ℕ) (h : Header) (repeats : Bool) (k : ℕ) → k < 65536 → length rec ≡ 850 → h ≡ head bytes book n (seen line rec)
-    → Kept (record { repeats = repeats; reporter = false; symbol = h .symbol; serial = h .serial; payments = k; total = record { high = 0; low = 0 } })
+pub kept-header : (book : Contents) (n : ℕ) (line : Line) (rec : List ℕ) (h : Header) (repeats : Bool) (codes : Codes) (k : ℕ) → k < 65536 → length rec ≡ 850 → h ≡ head book n (seen line rec)
+    → Kept (record { repeats = repeats; reporter = false; codes = codes; symbol = h .symbol; serial = h .serial; payments = k; total = record { high = 0; low = 0 } })
 unfolding head Whole
-kept-header bytes book n line rec h repeats k few l e =
+kept-header book n line rec h repeats codes k few l e =
     record { serial = rw e (serial-below line rec l); payments = few; total = omega arith }
 
 module _ (n : ℕ) (s : State) (r : Room n s) (h : n ≤ 65535) where
@@ -85,9 +87,17 @@ module _ (n : ℕ) (s : State) (r : Room n s) (h : n ≤ 65535) where
   pub kept-open : Kept (s .payment .context)
   kept-open = r .payment .context
 
-  pub kept-context : (c : Context) (repeats reporter : Bool) → c ≡ contextOf s repeats reporter → Kept c
+  pub kept-context : (c : Context) (repeats reporter : Bool) (codes : Codes) → c ≡ contextOf s repeats reporter codes → Kept c
   unfolding contextOf
-  kept-context c repeats reporter e = rw e (record { serial = r .serial; payments = omega (arith, r .payments); total = r .total .whole })
+  kept-context c repeats reporter codes e = rw e (record { serial = r .serial; payments = omega (arith, r .payments); total = r .total .whole })
+
+  pub kept-paying : (book : Contents) (c : Context) (repeats : Bool) (rec : List ℕ) → c ≡ payingContext book s repeats rec → Kept c
+  unfolding payingContext
+  kept-paying book c repeats rec e = kept-context c repeats _ _ e
+
+  pub kept-codes : (c : Context) (codes : Codes) → c ≡ withCodes (s .payment .context) codes → Kept c
+  unfolding withCodes
+  kept-codes c codes e = rw e (record { serial = kept-open .serial; payments = kept-open .payments; total = kept-open .total })
 
   pub payments-room : s .payments + 1 < 2 ^ 64
   payments-room = omega (arith, r .payments)
@@ -104,7 +114,7 @@ module _ (n : ℕ) (s : State) (r : Room n s) (h : n ≤ 65535) where
   pub declared-whole : Whole (s .header .amount)
   declared-whole = r .declared
 
-pub ruleset room = (own-room, numbered, kept-open, kept-context, payments-room, accounts-room, total-room, total-whole, declared-whole)
+pub ruleset room = (own-room, numbered, kept-open, kept-context, kept-paying, kept-codes, payments-room, accounts-room, total-room, total-whole, declared-whole)
 
 module _ (o : Open) (r : Own 65535 o) where
   pub sum-room : Fit (o .sum .positive) (o .sum .negative)

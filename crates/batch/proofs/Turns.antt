@@ -11,13 +11,14 @@ use Rattle.record.specs.declared.Field.{Field}
 use Rattle.record.specs.declared.Line.{Line}
 use Rattle.record.specs.declared.codes.Code.{Code}
 use Rattle.record.specs.declared.codes.Code.the-variants as code
+use Rattle.record.specs.Fields.{amount, accountAmount, procurementAmount}
 use Rattle.record.specs.Value.{Has, seen, held}
 use Rattle.record.specs.Codes.{codeOf}
 use Rattle.record.proofs.Held.{held-length}
 use Rattle.money.specs.Money as money
 use Rattle.money.specs.Money.{worth, split, cents}
 use Rattle.money.proofs.Amounts.{worth-split, split-whole, cents-below}
-use Rattle.book.specs.declared.Book.{Book}
+use Rattle.book.specs.Book.{Contents}
 use Rattle.nesting.specs.Division.{Record}
 use Rattle.nesting.specs.Records.{cut}
 use Rattle.repeats.specs.declared.Repeat.{Repeat}
@@ -25,9 +26,8 @@ use Rattle.rules.specs.declared.Context.{Context}
 use Rattle.rules.specs.Rules.{Kept}
 use Rattle.batch.specs.declared.payment.Open.{Open}
 use Rattle.batch.specs.declared.walk.State.{State}
-use Rattle.batch.specs.Batch.{amount, accountAmount, procurementAmount}
 use Rattle.batch.specs.Walk.{Own, Room, isAt, opened, withAccount, withProcurement, knowing, head, opening, detailed, partied, accounted, procured, trailed, stepOf, run}
-use Rattle.batch.proofs.Rooms.{small-cents, small-plus, small-later, own-later, serial-below, kept-context}
+use Rattle.batch.proofs.Rooms.{small-cents, small-plus, small-later, own-later, serial-below, kept-paying}
 
 -- a payment of which only the detail was read has room
 own-opened : (n m : ℕ) (c : Context) (xs : List ℕ) → Kept c → length xs ≤ 20 → Own (n + 1) (opened m c (split (cents xs)))
@@ -94,9 +94,9 @@ module _ (line : Line) (rec : List ℕ) (l : length rec ≡ 850) where
   below f h w = cents-below (held (seen line rec) f) (wide f h w)
 
   -- after a header there is room
-  pub room-opening : (bytes : List ℕ) (book : Book) (repeats : Bool) (n m : ℕ) → Room (n + 1) (opening bytes book repeats m (seen line rec))
+  pub room-opening : (book : Contents) (repeats : Bool) (n m : ℕ) → Room (n + 1) (opening book repeats m (seen line rec))
   unfolding opening opened head
-  room-opening bytes book repeats n m =
+  room-opening book repeats n m =
       record {
         payment =
             record {
@@ -117,7 +117,7 @@ module _ (line : Line) (rec : List ℕ) (l : length rec ≡ 850) where
       }
 
   -- and after each record there is room for the next
-  module _ (bytes : List ℕ) (book : Book) (n : ℕ) (s : State) (r : Room n s) where
+  module _ (book : Contents) (n : ℕ) (s : State) (r : Room n s) where
     room-later : Room (n + 1) s
     room-later =
         record {
@@ -129,13 +129,13 @@ module _ (line : Line) (rec : List ℕ) (l : length rec ≡ 850) where
           accounts = omega (arith, r .accounts);
         }
 
-    pub room-step : (c : Code) (repeats : Bool) → n ≤ 65535 → Room (n + 1) (stepOf bytes book c s n (seen line rec) repeats)
+    pub room-step : (c : Code) (repeats : Bool) → n ≤ 65535 → Room (n + 1) (stepOf book c s n (seen line rec) repeats)
     unfolding stepOf detailed partied accounted procured trailed knowing
     room-step code.FileHeader repeats h = room-later
     room-step (code.Batch m) repeats h = room-later
     room-step (code.Detail m) repeats h =
         record {
-          payment = own-opened n n _ _ (kept-context n s r h _ repeats _ refl) (wide amount (omega arith, omega arith) refl);
+          payment = own-opened n n _ _ (kept-paying n s r h book _ repeats _ refl) (wide amount (omega arith, omega arith) refl);
           serial = r .serial;
           declared = r .declared;
           payments = omega (arith, r .payments);
@@ -175,21 +175,21 @@ abbrev pub here : List ℕ → ℕ → ℕ → Record
 here part n at = seen (record { number = n }) (take (at + 850 - at) (drop at part))
 
 -- the walk over all records but the first
-abbrev pub walked : List ℕ → Book → List ℕ → ℕ → Bool → Repeat → State
-walked bytes book part first repeats rep =
-    run bytes book (isAt rep) (first + 1) (opening bytes book repeats first (top part first)) (cut (first + 1) (length part / 850 - 1) (drop 850 part))
+abbrev pub walked : Contents → List ℕ → ℕ → Bool → Repeat → State
+walked book part first repeats rep =
+    run book (isAt rep) (first + 1) (opening book repeats first (top part first)) (cut (first + 1) (length part / 850 - 1) (drop 850 part))
 
 -- the records before n have been walked, up to `at`; the walk over the rest is the walk over all
-pub record Walking (bytes : List ℕ) (book : Book) (part : List ℕ) (first : ℕ) (repeats : Bool) (rep : Repeat) (s : State) (n at : ℕ) : Type 0 where
+pub record Walking (book : Contents) (part : List ℕ) (first : ℕ) (repeats : Bool) (rep : Repeat) (s : State) (n at : ℕ) : Type 0 where
   pub place : at + first * 850 ≡ n * 850
   pub later : first < n
   pub within : at ≤ length part
   pub room : Room n s
-  pub left : walked bytes book part first repeats rep ≡ run bytes book (isAt rep) n s (cut n (length part / 850 - (n - first)) (drop at part))
+  pub left : walked book part first repeats rep ≡ run book (isAt rep) n s (cut n (length part / 850 - (n - first)) (drop at part))
 
-module _ (bytes : List ℕ) (book : Book) (part : List ℕ) (first : ℕ) (repeats : Bool) (rep : Repeat) (w : length part % 850 ≡ 0) where
-  pub begun : (s : State) → 850 ≤ length part → s ≡ opening bytes book repeats first (seen (record { number = first }) (take 850 part))
-      → Walking bytes book part first repeats rep s (first + 1) 850
+module _ (book : Contents) (part : List ℕ) (first : ℕ) (repeats : Bool) (rep : Repeat) (w : length part % 850 ≡ 0) where
+  pub begun : (s : State) → 850 ≤ length part → s ≡ opening book repeats first (seen (record { number = first }) (take 850 part))
+      → Walking book part first repeats rep s (first + 1) 850
   begun s h e =
       let k : first + 1 - first ≡ 1 = omega arith in
       let l : length (take 850 part) ≡ 850 = simp length-take (omega arith) in
@@ -198,11 +198,11 @@ module _ (bytes : List ℕ) (book : Book) (part : List ℕ) (first : ℕ) (repea
         place = omega arith;
         later = omega arith;
         within = h;
-        room = room-opening (record { number = first }) (take 850 part) l bytes book repeats first first;
+        room = room-opening (record { number = first }) (take 850 part) l book repeats first first;
         left = rw k;
       })
 
-  module _ (s : State) (n at : ℕ) (i : Walking bytes book part first repeats rep s n at) where
+  module _ (s : State) (n at : ℕ) (i : Walking book part first repeats rep s n at) where
     pub here-length : at < length part → length (take (at + 850 - at) (drop at part)) ≡ 850
     here-length h = simp (length-take, length-drop) (omega (arith, w, i .place, i .later))
 
@@ -213,8 +213,8 @@ module _ (bytes : List ℕ) (book : Book) (part : List ℕ) (first : ℕ) (repea
         let k : at + 850 - at ≡ 850 = omega arith in
         rw (e, k, drop-drop 850 at part)
 
-    pub turned : (t : State) (marked : Bool) → at < length part → n ≤ 65535 → marked ≡ isAt rep n → t ≡ stepOf bytes book (codeOf (here part n at)) s n (here part n at) marked
-        → Walking bytes book part first repeats rep t (n + 1) (at + 850)
+    pub turned : (t : State) (marked : Bool) → at < length part → n ≤ 65535 → marked ≡ isAt rep n → t ≡ stepOf book (codeOf (here part n at)) s n (here part n at) marked
+        → Walking book part first repeats rep t (n + 1) (at + 850)
     unfolding run
     turned t marked h few m e =
         record {
@@ -223,12 +223,12 @@ module _ (bytes : List ℕ) (book : Book) (part : List ℕ) (first : ℕ) (repea
           within = omega (arith, w, i .place, i .later);
           room =
               rw e
-              (room-step (record { number = n }) (take (at + 850 - at) (drop at part)) (here-length h) bytes book n s (i .room)
+              (room-step (record { number = n }) (take (at + 850 - at) (drop at part)) (here-length h) book n s (i .room)
               (codeOf (here part n at)) marked few);
           left = i .left ∙ rw (cut-next h, e, m);
         }
 
-    pub finished : length part ≤ at → s ≡ walked bytes book part first repeats rep
+    pub finished : length part ≤ at → s ≡ walked book part first repeats rep
     unfolding run cut
     finished h =
         let e : length part / 850 - (n - first) ≡ 0 = omega (arith, i .place, i .later) in

@@ -5,52 +5,29 @@ use mathlib.Core.List.{List, [], _∷_, _++_, map}
 use Prim.Native.Nat.{ℕ, _+_, _/_, _%_, _≤_}
 use lib.Dec.{eqb, leb}
 use lib.ListN.{length}
-use Rattle.record.specs.declared.Field.{Field}
 use Rattle.record.specs.declared.codes.Letter.{Letter}
 use Rattle.record.specs.declared.codes.Letter.the-variants.{N}
 use Rattle.record.specs.declared.codes.Code.{Code}
 use Rattle.record.specs.declared.codes.Code.the-variants as code
 use Rattle.record.specs.Choice.{_and_, choose}
+use Rattle.record.specs.Fields.{summaryTotalAmount, agencyLocationCode, checkSymbolNumber, checkFirstSerialNumber, paymentId, amount, paymentTypeCode, paymentLocationCode, stateCode, countryCode, originalCurrencyCode, businessEventTypeCode, accountAmount, procurementAmount}
 use Rattle.record.specs.Value.{held}
-use Rattle.record.specs.Tests.{blank, digits}
+use Rattle.record.specs.Tests.{digits}
 use Rattle.record.specs.Numeral.{numeral}
 use Rattle.record.specs.Codes.{codeOf}
 use Rattle.money.specs.Money.{split, cents, total}
-use Rattle.book.specs.declared.Book.{Book}
-use Rattle.book.specs.Book.{flagOf}
-use Rattle.nesting.specs.Division.{Record, paymentId, Payment, Batch, LegalBatch, batchLines}
+use Rattle.book.specs.declared.search.Listing.{Listing}
+use Rattle.book.specs.Book.{Contents, listing}
+use Rattle.nesting.specs.Division.{Record, Payment, Batch, LegalBatch, batchLines}
 use Rattle.nesting.specs.Records.{cut}
 use Rattle.repeats.specs.Repeats.{member}
 use Rattle.reasons.specs.declared.Finding.{Finding}
-use Rattle.reasons.specs.declared.lookups.Shelf.the-variants.{Locations, Betcs}
 use Rattle.reasons.specs.Findings.{found, first}
-use Rattle.reasons.specs.Reasons.{entry}
+use Rattle.rules.specs.declared.Codes.{Codes}
 use Rattle.rules.specs.declared.Context.{Context}
-use Rattle.rules.specs.Rules.{Rule, span, check, among, header, detail, party, account, procurement, loneProcurement, trailer, symbolField, firstSerialField, rulesFor, findings}
+use Rattle.rules.specs.Rules.{Rule, check, among, header, detail, party, account, procurement, loneProcurement, trailer, rulesFor, findings}
 use Rattle.batch.specs.declared.Row.{Row}
 use Rattle.batch.specs.Sums.{Entry, balances, procures}
-
--- the fields that sums and reporters are read from: 004 fields 9, 14, 24, 29, 86, 87 and 96
-abbrev pub summaryTotal : Field
-summaryTotal = span 33 52
-
-abbrev pub agencyLocation : Field
-agencyLocation = span 78 85
-
-abbrev pub amount : Field
-amount = span 23 42
-
-abbrev pub paymentLocation : Field
-paymentLocation = span 132 139
-
-abbrev pub eventType : Field
-eventType = span 47 54
-
-abbrev pub accountAmount : Field
-accountAmount = span 55 74
-
-abbrev pub procurementAmount : Field
-procurementAmount = span 131 150
 
 -- the letter of a code; a code that has none, which no batch begins with, stands for N
 unfoldable pub letterIn : Code → Letter
@@ -91,20 +68,44 @@ accountCount ps = total (map (λ (p : Payment). length (p .accounts)) ps)
 
 -- the number in field 19; what is no number is at fault there, and counts as zero here
 unfoldable pub firstSerial : Record → ℕ
-firstSerial h = choose (digits (held h firstSerialField)) (numeral (held h firstSerialField)) 0
+firstSerial h = choose (digits (held h checkFirstSerialNumber)) (numeral (held h checkFirstSerialNumber)) 0
 
--- what the rules of a record know of its batch: whether its number repeats an earlier one, whether the payer is a CARS Reporter,
--- the header's fields 18 and 19, the earlier payments
-unfoldable pub context : Record → Bool → Bool → List Payment → Context
-context h repeats reporter earlier =
+-- what the rules of a record know beside it: whether its number repeats an earlier one, whether the payer is a CARS Reporter, which of its
+-- codes are in the book, the header's fields 18 and 19, the earlier payments
+unfoldable pub context : Record → Bool → Bool → Codes → List Payment → Context
+context h repeats reporter codes earlier =
     record {
       repeats = repeats;
       reporter = reporter;
-      symbol = held h symbolField;
+      codes = codes;
+      symbol = held h checkSymbolNumber;
       serial = firstSerial h;
       payments = length earlier;
       total = split (paidBy earlier);
     }
+
+-- the same, of a record with other codes
+unfoldable pub withCodes : Context → Codes → Context
+withCodes c codes =
+    record {
+      repeats = c .repeats;
+      reporter = c .reporter;
+      codes = codes;
+      symbol = c .symbol;
+      serial = c .serial;
+      payments = c .payments;
+      total = c .total;
+    }
+
+-- the codes of a record that has none but a location, none but a BETC, none at all
+unfoldable pub locationOnly : Bool → Codes
+locationOnly listed = record { locations = listed; betcs = false; types = false; states = false; countries = false; currencies = false }
+
+unfoldable pub betcOnly : Bool → Codes
+betcOnly listed = record { locations = false; betcs = listed; types = false; states = false; countries = false; currencies = false }
+
+abbrev pub noCodes : Codes
+noCodes = locationOnly false
 
 -- no records
 unfoldable pub noRecords : List Record → Bool
@@ -117,35 +118,53 @@ tooMany n ps = found (choose (leb (accountCount ps) 1000) 0 12) n 76
 
 -- field 9 equals the sum, except in BC (14, header's record)
 unfoldable pub summary : ℕ → Record → List Payment → Finding
-summary n h ps = found (choose (among (letterOf h) check) 0 (choose (eqb (cents (held h summaryTotal)) (paidBy ps)) 0 14)) n 9
+summary n h ps = found (choose (among (letterOf h) check) 0 (choose (eqb (cents (held h summaryTotalAmount)) (paidBy ps)) 0 14)) n 9
 
-module _ (bytes : List ℕ) (book : Book) where
-  -- the location is a CARS Reporter's; an unknown one is none (01 Code book)
-  unfoldable pub isReporter : List ℕ → Bool
-  isReporter v = flagOf (entry bytes book Locations v)
+-- what the rules find in records that stand one after the other, each in its context; the first has this number
+unfoldable pub each : (Record → Context) → List Rule → ℕ → List Record → List Finding
+each known rules n [] = []
+each known rules n (r ∷ rs) = findings (known r) n r rules ++ each known rules (n + 1) rs
 
-  -- the reporter is the location in field 14, or field 29 for DC (01 Others)
-  unfoldable pub reporter : Record → Record → Bool
-  reporter h d = choose (among (letterOf h) check) (isReporter (held d paymentLocation)) (isReporter (held h agencyLocation))
+-- the same of a payment's DP: the only one may leave its amount blank (01 Others)
+unfoldable pub eachProcurement : Letter → Context → ℕ → List Record → List Finding
+eachProcurement l c n [] = []
+eachProcurement l c n (p ∷ []) = each (λ (r : Record). c) (rulesFor l loneProcurement) n (p ∷ [])
+eachProcurement l c n (p ∷ q ∷ ps) = each (λ (r : Record). c) (rulesFor l procurement) n (p ∷ q ∷ ps)
 
-  -- the BETC is a credit in the book; a blank one counts positive (01 Sums). Field 88 is not read
-  unfoldable pub isCredit : Record → Bool
-  isCredit t = choose (blank (held t eventType)) false (flagOf (entry bytes book Betcs (held t eventType)))
+module _ (book : Contents) where
+  -- what the book says of a location (kind 2); an unknown one is no CARS Reporter's (01 Code book)
+  unfoldable pub location : List ℕ → Listing
+  location v = listing 8 (book .locations) v
+
+  -- the payer's location: field 14, or field 29 for DC (01 Others)
+  unfoldable pub payer : Record → Record → Listing
+  payer h d = choose (among (letterOf h) check) (location (held d paymentLocationCode)) (location (held h agencyLocationCode))
+
+  -- what the book says of a DT's BETC (field 86, kind 3): a credit or not; a blank one counts positive (01 Sums). Field 88 is not read
+  unfoldable pub betc : Record → Listing
+  betc t = listing 8 (book .betcs) (held t businessEventTypeCode)
 
   -- a DT as the sum sees it
   unfoldable pub entryOf : Record → Entry
-  entryOf t = (isCredit t, cents (held t accountAmount))
+  entryOf t = (betc t .flagged, cents (held t accountAmount))
 
-  -- what the rules find in records that stand one after the other; the first has this number
-  unfoldable pub each : Context → List Rule → ℕ → List Record → List Finding
-  each c rules n [] = []
-  each c rules n (r ∷ rs) = findings bytes book c n r rules ++ each c rules (n + 1) rs
+  -- the codes of a header (field 14), of a detail (fields 28, 35, 38 and 52, and its payer's location) and, for the rules of a DT, its own (field 86)
+  unfoldable pub headerCodes : Record → Codes
+  headerCodes h = locationOnly (location (held h agencyLocationCode) .listed)
 
-  -- the same of a payment's DP: the only one may leave its amount blank (01 Others)
-  unfoldable pub eachProcurement : Letter → Context → ℕ → List Record → List Finding
-  eachProcurement l c n [] = []
-  eachProcurement l c n (p ∷ []) = each c (rulesFor l loneProcurement) n (p ∷ [])
-  eachProcurement l c n (p ∷ q ∷ ps) = each c (rulesFor l procurement) n (p ∷ q ∷ ps)
+  unfoldable pub detailCodes : Bool → Record → Codes
+  detailCodes payer d =
+      record {
+        locations = payer;
+        betcs = false;
+        types = listing 25 (book .types) (held d paymentTypeCode) .listed;
+        states = listing 2 (book .states) (held d stateCode) .listed;
+        countries = listing 2 (book .countries) (held d countryCode) .listed;
+        currencies = listing 3 (book .currencies) (held d originalCurrencyCode) .listed;
+      }
+
+  unfoldable pub accountContext : Context → Record → Context
+  accountContext c t = withCodes c (betcOnly (betc t .listed))
 
   -- 9, 10 and 11, with the detail's record and fields 87, 96 and 76 (01 Batch reasons)
   unfoldable pub sums : Bool → ℕ → Payment → List Finding
@@ -158,26 +177,30 @@ module _ (bytes : List ℕ) (book : Book) where
   -- a payment: its detail, its other records in file order, its sums
   unfoldable pub payment : Letter → Context → ℕ → Payment → List Finding
   payment l c n p =
-      findings bytes book c n (p .detail) (rulesFor l detail)
-      ++ (each c (rulesFor l party) (n + 1) (p .parties)
-      ++ (each c (rulesFor l account) (n + 1 + length (p .parties)) (p .accounts)
+      findings c n (p .detail) (rulesFor l detail)
+      ++ (each (λ (r : Record). c) (rulesFor l party) (n + 1) (p .parties)
+      ++ (each (accountContext c) (rulesFor l account) (n + 1 + length (p .parties)) (p .accounts)
       ++ (eachProcurement l c (n + 1 + length (p .parties) + length (p .accounts)) (p .procurements)
       ++ sums (c .reporter) n p)))
+
+  -- what the rules of a payment's records know
+  unfoldable pub detailContext : Record → Bool → List Payment → Record → Context
+  detailContext h repeats earlier d = context h repeats (payer h d .flagged) (detailCodes (payer h d .listed) d) earlier
 
   -- each payment, after those earlier in the batch
   unfoldable pub payments : Record → ℕ → List Payment → List Payment → List Finding
   payments h n earlier [] = []
   payments h n earlier (p ∷ ps) =
-      payment (letterOf h) (context h (member (idOf p) (map idOf earlier)) (reporter h (p .detail)) earlier) n p
+      payment (letterOf h) (detailContext h (member (idOf p) (map idOf earlier)) earlier (p .detail)) n p
       ++ payments h (n + size p) (earlier ++ p ∷ []) ps
 
   -- the findings of a batch in document 01's order; its header is record n, and repeats an earlier batch's schedule number or not
   unfoldable pub batchFindings : Bool → ℕ → Batch → List Finding
   batchFindings repeats n b =
-      findings bytes book (context (b .header) repeats false []) n (b .header) (rulesFor (letterOf (b .header)) header)
+      findings (context (b .header) repeats false (headerCodes (b .header)) []) n (b .header) (rulesFor (letterOf (b .header)) header)
       ++ (payments (b .header) (n + 1) [] (b .payments)
       ++ (tooMany n (b .payments)
-      ∷ (findings bytes book (context (b .header) false false (b .payments)) (n + 1 + sizes (b .payments)) (b .trailer) (rulesFor (letterOf (b .header)) trailer)
+      ∷ (findings (context (b .header) false false noCodes (b .payments)) (n + 1 + sizes (b .payments)) (b .trailer) (rulesFor (letterOf (b .header)) trailer)
       ++ summary n (b .header) (b .payments)
       ∷ [])))
 
@@ -205,5 +228,5 @@ pub record Judgeable (n : ℕ) (part : List ℕ) : Type 0 where
   pub batch : (b : Batch) × BatchOf n part b
 
 -- the row is that of the batch whose records the part is
-abbrev pub IsRow : List ℕ → Book → Bool → ℕ → List ℕ → Row → Type 0
-IsRow bytes book repeats n part row = (b : Batch) → BatchOf n part b → row ≡ rowOf bytes book repeats n b
+abbrev pub IsRow : Contents → Bool → ℕ → List ℕ → Row → Type 0
+IsRow book repeats n part row = (b : Batch) → BatchOf n part b → row ≡ rowOf book repeats n b

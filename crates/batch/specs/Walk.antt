@@ -7,25 +7,28 @@ use Rattle.record.specs.declared.codes.Letter.the-variants.{N}
 use Rattle.record.specs.declared.codes.Code.{Code}
 use Rattle.record.specs.declared.codes.Code.the-variants as code
 use Rattle.record.specs.Choice.{_and_, choose}
+use Rattle.record.specs.Fields.{summaryTotalAmount, agencyLocationCode, checkSymbolNumber, amount, paymentLocationCode, accountAmount, procurementAmount}
 use Rattle.record.specs.Value.{held}
 use Rattle.record.specs.Tests.{blank}
 use Rattle.record.specs.Codes.{codeOf}
 use Rattle.money.specs.declared.Amount.{Amount}
 use Rattle.money.specs.Money as money
 use Rattle.money.specs.Money.{worth, split, cents, Whole, comesTo}
-use Rattle.book.specs.declared.Book.{Book}
+use Rattle.book.specs.declared.search.Listing.{Listing}
+use Rattle.book.specs.Book.{Contents}
 use Rattle.nesting.specs.Division.{Record}
 use Rattle.repeats.specs.declared.Repeat.{Repeat}
 use Rattle.repeats.specs.declared.Repeat.the-variants.{At, Nowhere}
 use Rattle.reasons.specs.declared.Finding.{Finding}
 use Rattle.reasons.specs.Findings.{found, sound, after}
+use Rattle.rules.specs.declared.Codes.{Codes}
 use Rattle.rules.specs.declared.Context.{Context}
-use Rattle.rules.specs.Rules.{check, among, header, detail, party, account, procurement, loneProcurement, trailer, symbolField, rulesFor, findings, Kept}
+use Rattle.rules.specs.Rules.{check, among, header, detail, party, account, procurement, loneProcurement, trailer, rulesFor, findings, Kept}
 use Rattle.batch.specs.declared.Row.{Row}
 use Rattle.batch.specs.declared.payment.Open.{Open}
 use Rattle.batch.specs.declared.walk.Header.{Header}
 use Rattle.batch.specs.declared.walk.State.{State}
-use Rattle.batch.specs.Batch.{summaryTotal, agencyLocation, amount, paymentLocation, accountAmount, procurementAmount, letterIn, firstSerial, isReporter, isCredit}
+use Rattle.batch.specs.Batch.{letterIn, firstSerial, noCodes, locationOnly, location, betc, detailCodes, accountContext}
 
 -- the record with this number is the one that repeats
 unfoldable pub isAt : Repeat → ℕ → Bool
@@ -98,11 +101,12 @@ ended o =
     found (accountReason o) (o .number) 87 ∷ found (procurementReason o) (o .number) 96 ∷ found (lackReason o) (o .number) 76 ∷ []
 
 -- what the rules of the next record know of the batch
-unfoldable pub contextOf : State → Bool → Bool → Context
-contextOf s repeats reporter =
+unfoldable pub contextOf : State → Bool → Bool → Codes → Context
+contextOf s repeats reporter codes =
     record {
       repeats = repeats;
       reporter = reporter;
+      codes = codes;
       symbol = s .header .symbol;
       serial = s .header .serial;
       payments = s .payments;
@@ -117,70 +121,85 @@ state f h o payments total accounts =
 unfoldable pub knowing : State → Finding → Open → ℕ → State
 knowing s f o accounts = state f (s .header) o (s .payments) (s .total) accounts
 
-module _ (bytes : List ℕ) (book : Book) where
+-- a first DP may be blank; once there is a second, it may not
+unfoldable pub nextProcurement : Open → ℕ → Record → List Finding
+nextProcurement o n r =
+    found (choose (loneBlank o) 1 0) (n - 1) 96
+    ∷ findings (o .context) n r (rulesFor N (choose (eqb (o .procurements) 0) loneProcurement procurement))
+
+-- the state after a DX, after a DP
+unfoldable pub partied : State → ℕ → Record → State
+partied s n r =
+    knowing s (after (s .finding) (findings (s .payment .context) n r (rulesFor (s .header .letter) party))) (s .payment) (s .accounts)
+
+unfoldable pub procured : State → ℕ → Record → State
+procured s n r =
+    knowing s (after (s .finding) (nextProcurement (s .payment) n r))
+    (withProcurement (s .payment) (blank (held r procurementAmount)) (cents (held r procurementAmount))) (s .accounts)
+
+-- 12, the trailer, and field 9's sum
+unfoldable pub last : State → ℕ → Record → List Finding
+last s n r =
+    found (choose (leb (s .accounts) 1000) 0 12) (s .header .number) 76
+    ∷ (findings (contextOf s false false noCodes) n r (rulesFor N trailer)
+    ++ found (choose (among (s .header .letter) check) 0 (choose (eqb (worth (s .header .amount)) (worth (s .total))) 0 14)) (s .header .number) 9
+    ∷ [])
+
+unfoldable pub trailed : State → ℕ → Record → State
+trailed s n r = knowing s (after (after (s .finding) (ended (s .payment))) (last s n r)) (s .payment) (s .accounts)
+
+module _ (book : Contents) where
   -- what the header says
   unfoldable pub head : ℕ → Record → Header
   head n h =
       record {
         number = n;
         letter = letterIn (codeOf h);
-        reporter = isReporter bytes book (held h agencyLocation);
-        symbol = held h symbolField;
+        payer = location book (held h agencyLocationCode);
+        symbol = held h checkSymbolNumber;
         serial = firstSerial h;
-        amount = split (cents (held h summaryTotal));
+        amount = split (cents (held h summaryTotalAmount));
       }
 
   -- what the header's rules know
   abbrev pub headContext : Bool → Record → Context
   headContext repeats h =
-      record { repeats = repeats; reporter = false; symbol = held h symbolField; serial = firstSerial h; payments = 0; total = split 0 }
+      record {
+        repeats = repeats;
+        reporter = false;
+        codes = locationOnly (location book (held h agencyLocationCode) .listed);
+        symbol = held h checkSymbolNumber;
+        serial = firstSerial h;
+        payments = 0;
+        total = split 0;
+      }
 
   -- before the first payment: an empty one of no reporter, with which nothing is wrong
   unfoldable pub opening : Bool → ℕ → Record → State
   opening repeats n h =
-      state (after sound (findings bytes book (headContext repeats h) n h (rulesFor (letterIn (codeOf h)) header))) (head n h)
+      state (after sound (findings (headContext repeats h) n h (rulesFor (letterIn (codeOf h)) header))) (head n h)
       (opened n (headContext repeats h) (split 0)) 0 (split 0) 0
 
-  -- the payer of a payment is a CARS Reporter
-  unfoldable pub reporterIn : Header → Record → Bool
-  reporterIn h d = choose (among (h .letter) check) (isReporter bytes book (held d paymentLocation)) (h .reporter)
+  -- the payer's location
+  unfoldable pub payerIn : Header → Record → Listing
+  payerIn h d = choose (among (h .letter) check) (location book (held d paymentLocationCode)) (h .payer)
+
+  -- what the rules of a payment's records know
+  unfoldable pub payingContext : State → Bool → Record → Context
+  payingContext s repeats r =
+      let payer = payerIn (s .header) r in
+      contextOf s repeats (payer .flagged) (detailCodes book (payer .listed) r)
 
   unfoldable pub detailed : State → ℕ → Record → Bool → State
   detailed s n r repeats =
-      let c = contextOf s repeats (reporterIn (s .header) r) in
-      state (after (after (s .finding) (ended (s .payment))) (findings bytes book c n r (rulesFor (s .header .letter) detail))) (s .header)
+      let c = payingContext s repeats r in
+      state (after (after (s .finding) (ended (s .payment))) (findings c n r (rulesFor (s .header .letter) detail))) (s .header)
       (opened n c (split (cents (held r amount)))) (s .payments + 1) (split (worth (s .total) + cents (held r amount))) (s .accounts)
-
-  unfoldable pub partied : State → ℕ → Record → State
-  partied s n r =
-      knowing s (after (s .finding) (findings bytes book (s .payment .context) n r (rulesFor (s .header .letter) party))) (s .payment) (s .accounts)
 
   unfoldable pub accounted : State → ℕ → Record → State
   accounted s n r =
-      knowing s (after (s .finding) (findings bytes book (s .payment .context) n r (rulesFor N account)))
-      (withAccount (s .payment) (isCredit bytes book r) (cents (held r accountAmount))) (s .accounts + 1)
-
-  -- a first DP may be blank; once there is a second, it may not
-  unfoldable pub nextProcurement : Open → ℕ → Record → List Finding
-  nextProcurement o n r =
-      found (choose (loneBlank o) 1 0) (n - 1) 96
-      ∷ findings bytes book (o .context) n r (rulesFor N (choose (eqb (o .procurements) 0) loneProcurement procurement))
-
-  unfoldable pub procured : State → ℕ → Record → State
-  procured s n r =
-      knowing s (after (s .finding) (nextProcurement (s .payment) n r))
-      (withProcurement (s .payment) (blank (held r procurementAmount)) (cents (held r procurementAmount))) (s .accounts)
-
-  -- 12, the trailer, and field 9's sum
-  unfoldable pub last : State → ℕ → Record → List Finding
-  last s n r =
-      found (choose (leb (s .accounts) 1000) 0 12) (s .header .number) 76
-      ∷ (findings bytes book (contextOf s false false) n r (rulesFor N trailer)
-      ++ found (choose (among (s .header .letter) check) 0 (choose (eqb (worth (s .header .amount)) (worth (s .total))) 0 14)) (s .header .number) 9
-      ∷ [])
-
-  unfoldable pub trailed : State → ℕ → Record → State
-  trailed s n r = knowing s (after (after (s .finding) (ended (s .payment))) (last s n r)) (s .payment) (s .accounts)
+      knowing s (after (s .finding) (findings (accountContext book (s .payment .context) r) n r (rulesFor N account)))
+      (withAccount (s .payment) (betc book r .flagged) (cents (held r accountAmount))) (s .accounts + 1)
 
   -- the state after a record, by its code
   unfoldable pub stepOf : Code → State → ℕ → Record → Bool → State

@@ -1,4 +1,5 @@
 // One batch over its records (01 Batch reasons, Sums, Report): one walk, nothing copied, one row.
+mod lookups;
 mod payment;
 mod walk;
 
@@ -9,7 +10,7 @@ use record::Line;
 use repeats::Repeat;
 use walk::State;
 ghost use mathlib.Core.Path.{_≡_};
-ghost use Rattle.book.specs.Book.{Usable};
+ghost use Rattle.book.specs.Book.{Usable, listedAt};
 ghost use Rattle.batch.specs.Batch.{Judgeable, IsRow};
 ghost use Rattle.batch.specs.Walk.{isAt, rowAt};
 
@@ -52,7 +53,7 @@ fn row_of(state: State, first_record: usize, records: usize) -> Row
 // earlier batch's or not.
 pub fn judge_batch(book: &[u8], shelves: Book, part: &[u8], first: usize, repeats: bool) -> Row
     requires { ⌜ Usable (now book) shelves × Judgeable first (now part) ⌝ }
-    ensures { λ r. ⌜ IsRow (now (book .entry)) shelves repeats first (now (part .entry)) r ⌝ }
+    ensures { λ r. ⌜ IsRow (listedAt (now (book .entry)) shelves) repeats first (now (part .entry)) r ⌝ }
 {
     let repeat = repeats::first_repeat(part, first);
     let opening = Line { number: first };

@@ -1,16 +1,17 @@
 // The walk over a batch: what is known before a record, and after it. A step sees one record, never those around it.
+use crate::lookups;
 use crate::payment;
 use crate::payment::Open;
 use book::Book;
+use book::search::Listing;
 use money::Amount;
 use reasons::Finding;
-use reasons::lookups;
-use reasons::lookups::Shelf;
 use record::Line;
 use record::codes::Code;
 use record::codes::Letter;
 use record::codes::code_of;
 use record::layout::*;
+use rules::Codes;
 use rules::Context;
 use rules::detail::detail_rules;
 use rules::header::header_rules;
@@ -29,17 +30,18 @@ ghost use Rattle.record.specs.Choice.{choose};
 ghost use Rattle.record.specs.Value.{seen};
 ghost use Rattle.record.specs.Codes.{codeOf};
 ghost use Rattle.money.specs.Money.{worth, Whole};
-ghost use Rattle.book.specs.Book.{Usable};
+ghost use Rattle.book.specs.Book.{Usable, listedAt};
 ghost use Rattle.reasons.specs.Findings.{after};
 ghost use Rattle.rules.specs.Rules.{Kept, among, check, procurement, loneProcurement, rulesFor, findings};
-ghost use Rattle.batch.specs.Batch.{letterIn, firstSerial, isCredit};
-ghost use Rattle.batch.specs.Walk.{Room, loneBlank, head, opening, contextOf, knowing, reporterIn, nextProcurement, last, detailed, partied, accounted, procured, trailed, stepOf};
+ghost use Rattle.batch.specs.Batch.{letterIn, firstSerial, withCodes};
+ghost use Rattle.batch.specs.Walk.{Room, loneBlank, head, opening, contextOf, knowing, payerIn, payingContext, nextProcurement, last, detailed, partied, accounted, procured, trailed, stepOf};
 
-// What the header says: its record, the batch's letter, the CARS Reporter of field 14, fields 18 and 19, and the total of field 9.
+// What the header says: its record, the batch's letter, what the book says of the location in field 14, fields 18 and 19, and the total of
+// field 9.
 pub(crate) struct Header {
     pub(crate) number: usize,
     pub(crate) letter: Letter,
-    pub(crate) reporter: bool,
+    pub(crate) payer: Listing,
     pub(crate) symbol: [u8; 4],
     pub(crate) serial: u64,
     pub(crate) amount: Amount,
@@ -98,26 +100,19 @@ fn first_serial(rec: &[u8], line: Line) -> u64
 
 fn read_header(book: &[u8], shelves: Book, rec: &[u8], line: Line) -> Header
     requires { ⌜ Usable (now book) shelves × (length (now rec) ≡ 850) ⌝ }
-    ensures { λ r. ⌜ r ≡ head (now (book .entry)) shelves (line .number) (seen line (now (rec .entry))) ⌝ }
+    ensures { λ r. ⌜ r ≡ head (listedAt (now (book .entry)) shelves) (line .number) (seen line (now (rec .entry))) ⌝ }
 {
     let number = line.number;
     let code = code_of(rec, line);
     let letter = letter_in(code);
-    let reporter = lookups::is_flagged(
-        book,
-        shelves,
-        Shelf::Locations,
-        rec,
-        line,
-        AGENCY_LOCATION_CODE,
-    );
+    let payer = lookups::location(book, shelves, rec, line, AGENCY_LOCATION_CODE);
     let symbol = rules::symbol_of(rec, line);
     let serial = first_serial(rec, line);
     let amount = money::field_amount(rec, line, SUMMARY_TOTAL_AMOUNT);
     Header {
         number,
         letter,
-        reporter,
+        payer,
         symbol,
         serial,
         amount,
@@ -128,16 +123,19 @@ fn read_header(book: &[u8], shelves: Book, rec: &[u8], line: Line) -> Header
 // reporter stands open, with which nothing is wrong.
 pub(crate) fn open_batch(book: &[u8], shelves: Book, rec: &[u8], line: Line, repeats: bool) -> State
     requires { ⌜ Usable (now book) shelves × (length (now rec) ≡ 850) ⌝ }
-    ensures { λ r. ⌜ r ≡ opening (now (book .entry)) shelves repeats (line .number) (seen line (now (rec .entry))) ⌝ }
+    ensures { λ r. ⌜ r ≡ opening (listedAt (now (book .entry)) shelves) repeats (line .number) (seen line (now (rec .entry))) ⌝ }
 {
     let header = read_header(book, shelves, rec, line);
     let symbol = header.symbol;
     let letter = header.letter;
+    let payer = header.payer;
+    let codes = lookups::location_only(payer.listed);
     let payments: u64 = 0;
     let none = Amount { high: 0, low: 0 };
     let context = Context {
         repeats,
         reporter: false,
+        codes,
         symbol,
         serial: header.serial,
         payments,
@@ -148,7 +146,7 @@ pub(crate) fn open_batch(book: &[u8], shelves: Book, rec: &[u8], line: Line, rep
         record_number: 0,
         field: 0,
     };
-    let finding = header_rules(sound, book, shelves, rec, line, letter, context);
+    let finding = header_rules(sound, rec, line, letter, context);
     let payment = payment::begin(line.number, context, none);
     State {
         finding,
@@ -161,8 +159,8 @@ pub(crate) fn open_batch(book: &[u8], shelves: Book, rec: &[u8], line: Line, rep
 }
 
 // What the rules of the next record know of the batch.
-fn context_of(state: State, repeats: bool, reporter: bool) -> Context
-    ensures { λ r. ⌜ r ≡ contextOf state repeats reporter ⌝ }
+fn context_of(state: State, repeats: bool, reporter: bool, codes: Codes) -> Context
+    ensures { λ r. ⌜ r ≡ contextOf state repeats reporter codes ⌝ }
 {
     let header = state.header;
     let symbol = header.symbol;
@@ -170,6 +168,7 @@ fn context_of(state: State, repeats: bool, reporter: bool) -> Context
     Context {
         repeats,
         reporter,
+        codes,
         symbol,
         serial: header.serial,
         payments: state.payments,
@@ -177,23 +176,34 @@ fn context_of(state: State, repeats: bool, reporter: bool) -> Context
     }
 }
 
-// The payer of a payment is a CARS Reporter: by the header's location, or in a check batch by the detail's (field 29).
-fn is_reporter(book: &[u8], shelves: Book, rec: &[u8], line: Line, header: Header) -> bool
+// What the book says of a payer's location: the header's, or in a check batch the detail's (field 29).
+fn payer_of(book: &[u8], shelves: Book, rec: &[u8], line: Line, header: Header) -> Listing
     requires { ⌜ Usable (now book) shelves × (length (now rec) ≡ 850) ⌝ }
-    ensures { λ r. ⌜ r ≡ reporterIn (now (book .entry)) shelves header (seen line (now (rec .entry))) ⌝ }
+    ensures { λ r. ⌜ r ≡ payerIn (listedAt (now (book .entry)) shelves) header (seen line (now (rec .entry))) ⌝ }
 {
     let letter = header.letter;
     if is_check(letter) {
-        return lookups::is_flagged(
-            book,
-            shelves,
-            Shelf::Locations,
-            rec,
-            line,
-            PAYMENT_LOCATION_CODE,
-        );
+        return lookups::location(book, shelves, rec, line, PAYMENT_LOCATION_CODE);
     }
-    header.reporter
+    header.payer
+}
+
+// What the rules of a payment's records know of the batch and of the book.
+fn paying_context(
+    book: &[u8],
+    shelves: Book,
+    rec: &[u8],
+    line: Line,
+    state: State,
+    repeats: bool,
+) -> Context
+    requires { ⌜ Usable (now book) shelves × (length (now rec) ≡ 850) ⌝ }
+    ensures { λ r. ⌜ r ≡ payingContext (listedAt (now (book .entry)) shelves) state repeats (seen line (now (rec .entry))) ⌝ }
+{
+    let header = state.header;
+    let payer = payer_of(book, shelves, rec, line, header);
+    let codes = lookups::detail_codes(book, shelves, rec, line, payer.listed);
+    context_of(state, repeats, payer.flagged, codes)
 }
 
 // A detail: the payment before it ends, and its own begins.
@@ -206,17 +216,16 @@ fn take_detail(
     repeats: bool,
 ) -> State
     requires { ⌜ Usable (now book) shelves × (length (now rec) ≡ 850) × Room (line .number) state × (line .number ≤ 65535) ⌝ }
-    ensures { λ r. ⌜ r ≡ detailed (now (book .entry)) shelves state (line .number) (seen line (now (rec .entry))) repeats ⌝ }
+    ensures { λ r. ⌜ r ≡ detailed (listedAt (now (book .entry)) shelves) state (line .number) (seen line (now (rec .entry))) repeats ⌝ }
 {
     let header = state.header;
     let letter = header.letter;
     let known = state.finding;
     let closing = state.payment;
     let before = state.total;
-    let reporter = is_reporter(book, shelves, rec, line, header);
-    let context = context_of(state, repeats, reporter);
+    let context = paying_context(book, shelves, rec, line, state, repeats);
     let ended = payment::end(known, closing);
-    let finding = detail_rules(ended, book, shelves, rec, line, letter, context);
+    let finding = detail_rules(ended, rec, line, letter, context);
     let amount = money::field_amount(rec, line, AMOUNT);
     let payment = payment::begin(line.number, context, amount);
     let payments = state.payments + 1;
@@ -247,89 +256,69 @@ fn know(state: State, finding: Finding, payment: Open, accounts: usize) -> State
     }
 }
 
-fn take_party(book: &[u8], shelves: Book, rec: &[u8], line: Line, state: State) -> State
-    requires { ⌜ Usable (now book) shelves × (length (now rec) ≡ 850) × Room (line .number) state × (line .number ≤ 65535) ⌝ }
-    ensures { λ r. ⌜ r ≡ partied (now (book .entry)) shelves state (line .number) (seen line (now (rec .entry))) ⌝ }
+fn take_party(rec: &[u8], line: Line, state: State) -> State
+    requires { ⌜ (length (now rec) ≡ 850) × Room (line .number) state × (line .number ≤ 65535) ⌝ }
+    ensures { λ r. ⌜ r ≡ partied state (line .number) (seen line (now (rec .entry))) ⌝ }
 {
     let header = state.header;
     let letter = header.letter;
     let known = state.finding;
     let payment = state.payment;
     let context = payment.context;
-    let finding = party_rules(known, book, shelves, rec, line, letter, context);
+    let finding = party_rules(known, rec, line, letter, context);
     know(state, finding, payment, state.accounts)
 }
 
-// The BETC is a credit in the book; a blank one is none. The record's own word for it (field 88) is not read.
-fn is_credit(book: &[u8], shelves: Book, rec: &[u8], line: Line) -> bool
-    requires { ⌜ Usable (now book) shelves × (length (now rec) ≡ 850) ⌝ }
-    ensures { λ r. ⌜ r ≡ isCredit (now (book .entry)) shelves (seen line (now (rec .entry))) ⌝ }
+// The context of a payment's records, for a record with other codes.
+fn with_codes(context: Context, codes: Codes) -> Context
+    ensures { λ r. ⌜ r ≡ withCodes context codes ⌝ }
 {
-    if record::field_blank(rec, line, BUSINESS_EVENT_TYPE_CODE) {
-        return false;
-    }
-    lookups::is_flagged(
-        book,
-        shelves,
-        Shelf::Betcs,
-        rec,
-        line,
-        BUSINESS_EVENT_TYPE_CODE,
-    )
+    let mut after = context;
+    after.codes = codes;
+    after
 }
 
+// A DT: its BETC is looked up once, for its rules and for the sum. The record's own word for a credit (field 88) is not read.
 fn take_account(book: &[u8], shelves: Book, rec: &[u8], line: Line, state: State) -> State
     requires { ⌜ Usable (now book) shelves × (length (now rec) ≡ 850) × Room (line .number) state × (line .number ≤ 65535) ⌝ }
-    ensures { λ r. ⌜ r ≡ accounted (now (book .entry)) shelves state (line .number) (seen line (now (rec .entry))) ⌝ }
+    ensures { λ r. ⌜ r ≡ accounted (listedAt (now (book .entry)) shelves) state (line .number) (seen line (now (rec .entry))) ⌝ }
 {
     let known = state.finding;
     let before = state.payment;
-    let context = before.context;
-    let finding = account_rules(known, book, shelves, rec, line, context);
-    let credit = is_credit(book, shelves, rec, line);
+    let paying = before.context;
+    let betc = lookups::betc(book, shelves, rec, line);
+    let codes = lookups::betc_only(betc.listed);
+    let context = with_codes(paying, codes);
+    let finding = account_rules(known, rec, line, context);
     let amount = money::field_amount(rec, line, ACCOUNT_AMOUNT);
-    let payment = payment::with_account(before, credit, amount);
+    let payment = payment::with_account(before, betc.flagged, amount);
     let accounts = state.accounts + 1;
     know(state, finding, payment, accounts)
 }
 
 // The rules of a DP that may be the payment's only one, or is not.
-fn own_rules(
-    known: Finding,
-    book: &[u8],
-    shelves: Book,
-    rec: &[u8],
-    line: Line,
-    payment: Open,
-) -> Finding
-    requires { ⌜ Usable (now book) shelves × (length (now rec) ≡ 850) × Kept (payment .context) ⌝ }
-    ensures { λ r. ⌜ r ≡ after known (findings (now (book .entry)) shelves (payment .context) (line .number) (seen line (now (rec .entry))) (rulesFor N (choose (eqb (payment .procurements) 0) loneProcurement procurement))) ⌝ }
+fn own_rules(known: Finding, rec: &[u8], line: Line, payment: Open) -> Finding
+    requires { ⌜ (length (now rec) ≡ 850) × Kept (payment .context) ⌝ }
+    ensures { λ r. ⌜ r ≡ after known (findings (payment .context) (line .number) (seen line (now (rec .entry))) (rulesFor N (choose (eqb (payment .procurements) 0) loneProcurement procurement))) ⌝ }
 {
     let context = payment.context;
     if payment.procurements == 0 {
-        return lone_procurement_rules(known, book, shelves, rec, line, context);
+        return lone_procurement_rules(known, rec, line, context);
     }
-    procurement_rules(known, book, shelves, rec, line, context)
+    procurement_rules(known, rec, line, context)
 }
 
 // What a DP finds. Where it is the second, a blank first one is at fault too: it was let pass as the only one.
-fn procurement_findings(
-    known: Finding,
-    book: &[u8],
-    shelves: Book,
-    rec: &[u8],
-    line: Line,
-    payment: Open,
-) -> Finding
-    requires { ⌜ Usable (now book) shelves × (length (now rec) ≡ 850) × Kept (payment .context) × (1 ≤ line .number) ⌝ }
-    ensures { λ r. ⌜ r ≡ after known (nextProcurement (now (book .entry)) shelves payment (line .number) (seen line (now (rec .entry)))) ⌝ }
+fn procurement_findings(known: Finding, rec: &[u8], line: Line, payment: Open) -> Finding
+    requires { ⌜ (length (now rec) ≡ 850) × Kept (payment .context) × (1 ≤ line .number) ⌝ }
+    ensures { λ r. ⌜ r ≡ after known (nextProcurement payment (line .number) (seen line (now (rec .entry)))) ⌝ }
 {
     let earlier = Line {
         number: line.number - 1,
     };
     let reason = first_reason(payment);
     let after_first = reasons::note(known, reason, earlier, 96);
-    own_rules(after_first, book, shelves, rec, line, payment)
+    own_rules(after_first, rec, line, payment)
 }
 
 // 1 where the payment's one DP so far is blank.
@@ -342,13 +331,13 @@ fn first_reason(payment: Open) -> usize
     0
 }
 
-fn take_procurement(book: &[u8], shelves: Book, rec: &[u8], line: Line, state: State) -> State
-    requires { ⌜ Usable (now book) shelves × (length (now rec) ≡ 850) × Room (line .number) state × (line .number ≤ 65535) ⌝ }
-    ensures { λ r. ⌜ r ≡ procured (now (book .entry)) shelves state (line .number) (seen line (now (rec .entry))) ⌝ }
+fn take_procurement(rec: &[u8], line: Line, state: State) -> State
+    requires { ⌜ (length (now rec) ≡ 850) × Room (line .number) state × (line .number ≤ 65535) ⌝ }
+    ensures { λ r. ⌜ r ≡ procured state (line .number) (seen line (now (rec .entry))) ⌝ }
 {
     let known = state.finding;
     let before = state.payment;
-    let finding = procurement_findings(known, book, shelves, rec, line, before);
+    let finding = procurement_findings(known, rec, line, before);
     let blank = record::field_blank(rec, line, PROCUREMENT_AMOUNT);
     let amount = money::field_amount(rec, line, PROCUREMENT_AMOUNT);
     let payment = payment::with_procurement(before, blank, amount);
@@ -382,16 +371,9 @@ fn summary_reason(header: Header, total: Amount) -> usize
 }
 
 // What is found at the end of a batch: 12, then the trailer, then field 9's sum.
-fn last_findings(
-    known: Finding,
-    book: &[u8],
-    shelves: Book,
-    rec: &[u8],
-    line: Line,
-    state: State,
-) -> Finding
-    requires { ⌜ Usable (now book) shelves × (length (now rec) ≡ 850) × Room (line .number) state × (line .number ≤ 65535) ⌝ }
-    ensures { λ r. ⌜ r ≡ after known (last (now (book .entry)) shelves state (line .number) (seen line (now (rec .entry)))) ⌝ }
+fn last_findings(known: Finding, rec: &[u8], line: Line, state: State) -> Finding
+    requires { ⌜ (length (now rec) ≡ 850) × Room (line .number) state × (line .number ≤ 65535) ⌝ }
+    ensures { λ r. ⌜ r ≡ after known (last state (line .number) (seen line (now (rec .entry)))) ⌝ }
 {
     let header = state.header;
     let total = state.total;
@@ -400,21 +382,22 @@ fn last_findings(
     };
     let limit = account_limit(state.accounts);
     let after_limit = reasons::note(known, limit, opening, 76);
-    let context = context_of(state, false, false);
-    let after_trailer = trailer_rules(after_limit, book, shelves, rec, line, context);
+    let none = lookups::location_only(false);
+    let context = context_of(state, false, false, none);
+    let after_trailer = trailer_rules(after_limit, rec, line, context);
     let summary = summary_reason(header, total);
     reasons::note(after_trailer, summary, opening, 9)
 }
 
 // The trailer: the last payment ends, and the batch.
-fn take_trailer(book: &[u8], shelves: Book, rec: &[u8], line: Line, state: State) -> State
-    requires { ⌜ Usable (now book) shelves × (length (now rec) ≡ 850) × Room (line .number) state × (line .number ≤ 65535) ⌝ }
-    ensures { λ r. ⌜ r ≡ trailed (now (book .entry)) shelves state (line .number) (seen line (now (rec .entry))) ⌝ }
+fn take_trailer(rec: &[u8], line: Line, state: State) -> State
+    requires { ⌜ (length (now rec) ≡ 850) × Room (line .number) state × (line .number ≤ 65535) ⌝ }
+    ensures { λ r. ⌜ r ≡ trailed state (line .number) (seen line (now (rec .entry))) ⌝ }
 {
     let known = state.finding;
     let payment = state.payment;
     let ended = payment::end(known, payment);
-    let finding = last_findings(ended, book, shelves, rec, line, state);
+    let finding = last_findings(ended, rec, line, state);
     know(state, finding, payment, state.accounts)
 }
 
@@ -428,17 +411,17 @@ pub(crate) fn step(
     repeats: bool,
 ) -> State
     requires { ⌜ Usable (now book) shelves × (length (now rec) ≡ 850) × Room (line .number) state × (line .number ≤ 65535) ⌝ }
-    ensures { λ r. ⌜ r ≡ stepOf (now (book .entry)) shelves (codeOf (seen line (now (rec .entry)))) state (line .number) (seen line (now (rec .entry))) repeats ⌝ }
+    ensures { λ r. ⌜ r ≡ stepOf (listedAt (now (book .entry)) shelves) (codeOf (seen line (now (rec .entry)))) state (line .number) (seen line (now (rec .entry))) repeats ⌝ }
 {
     let code = code_of(rec, line);
     match code {
         Code::FileHeader => state,
         Code::Batch(_) => state,
         Code::Detail(_) => take_detail(book, shelves, rec, line, state, repeats),
-        Code::Party => take_party(book, shelves, rec, line, state),
+        Code::Party => take_party(rec, line, state),
         Code::Account => take_account(book, shelves, rec, line, state),
-        Code::Procurement => take_procurement(book, shelves, rec, line, state),
-        Code::BatchTrailer => take_trailer(book, shelves, rec, line, state),
+        Code::Procurement => take_procurement(rec, line, state),
+        Code::BatchTrailer => take_trailer(rec, line, state),
         Code::FileTrailer => state,
         Code::Unknown => state,
     }

@@ -15,7 +15,7 @@ use Rattle.book.specs.declared.Kind.{Kind}
 use Rattle.book.specs.declared.Section.{Section}
 use Rattle.book.specs.declared.Book.{Book}
 use Rattle.book.specs.declared.reading.Found.{Found}
-use Rattle.book.specs.Book.{systemKind, locationKind, betcKind, typeKind, stateKind, countryKind, currencyKind, entriesAt, sectionOf, Contents, bookOf, Lists, standing, past, systemsAt, locationsAt, betcsAt, typesAt, statesAt, countriesAt, currenciesAt, placed, nowhere, shut, Opened, Usable}
+use Rattle.book.specs.Book.{systemKind, locationKind, betcKind, typeKind, stateKind, countryKind, currencyKind, entriesAt, sectionOf, Contents, bookOf, Lists, standing, past, systemsAt, locationsAt, betcsAt, typesAt, statesAt, countriesAt, currenciesAt, placed, nowhere, shut, Opened, listedAt, ShelvedAs, Usable}
 use Rattle.book.specs.Book.Opened.{sound, unsound}
 use Rattle.book.specs.Reading.{Kinded, sectionAt, sectionAfter, lost, begun, bound, ended}
 use Rattle.book.proofs.Entries.{Bytes}
@@ -228,18 +228,38 @@ opened-one bs r s (sound k l) (unsound n) = absurd (n k l)
 opened-one bs r s (unsound n) (sound k l) = absurd (n k l)
 opened-one bs r s (unsound n) (unsound m) = refl
 
+-- a section where it stands
+as-kind : (bs : List ℕ) (at : ℕ) (k : Kind) (es : List (List ℕ)) (rest : List ℕ) → Stood bs at k es rest → ShelvedAs bs k (standing at k es)
+unfolding standing
+as-kind bs at k es rest v = record { coded = refl; shelved = v .shelved }
+
 -- every section of a book that was found sound can be looked up in
 pub usable : (bs : List ℕ) (r : Book) → Opened bs r → r .sound ≡ true → Usable bs r
 unfolding placed shut past
 usable bs r (sound k l) t =
     let v = shelves bs k l in
     record {
-      systems = v .systems .shelved;
-      locations = v .locations .shelved;
-      betcs = v .betcs .shelved;
-      types = v .types .shelved;
-      states = v .states .shelved;
-      countries = v .countries .shelved;
-      currencies = v .currencies .shelved;
+      systems = as-kind bs _ _ _ _ (v .systems);
+      locations = as-kind bs _ _ _ _ (v .locations);
+      betcs = as-kind bs _ _ _ _ (v .betcs);
+      types = as-kind bs _ _ _ _ (v .types);
+      states = as-kind bs _ _ _ _ (v .states);
+      countries = as-kind bs _ _ _ _ (v .countries);
+      currencies = as-kind bs _ _ _ _ (v .currencies);
     }
 usable bs r (unsound n) t = absurd (true≢false (sym t))
+
+-- and what stands at its places is what it lists
+pub listed-there : (bs : List ℕ) (k : Contents) → Lists bs k → listedAt bs (placed k) ≡ k
+unfolding listedAt placed past
+listed-there bs k l =
+    let v = shelves bs k l in
+    λ i. record {
+      systems = v .systems .entries i;
+      locations = v .locations .entries i;
+      betcs = v .betcs .entries i;
+      types = v .types .entries i;
+      states = v .states .entries i;
+      countries = v .countries .entries i;
+      currencies = v .currencies .entries i;
+    }

@@ -1,27 +1,32 @@
 -- A section's entries, and what a binary search among them knows.
 -- Assumes nothing.
-use mathlib.Core.Path.{_≡_, refl, sym, _∙_}
-use mathlib.Core.Bool.{Bool, true, false}
+use mathlib.Core.Path.{_≡_, refl, sym, ap, _∙_}
+use mathlib.Core.Bool.{Bool, true, false, not}
 use mathlib.Core.List.{List, [], _∷_}
 use mathlib.Core.Logic.{⊎-elim}
 use Prim.Native.Nat.{ℕ, zero, suc, _+_, _-_, _*_, _/_, _≤_, _<_}
 use native.Mathlib.Nat.{eq-or-lt-of-le, eq-zero-or-pos, suc-mul, zero-mul, add-comm, add-sub-cancel-left}
 use native.Mathlib.Omega.{arith}
+use lib.Dec.{eqb}
+use borrow.Author.Tests.{ne-eqb}
 use lib.ListN.{length, take, drop, getD, length-take, length-drop, List·getD-eq-default}
 use lib.Seq.{drop-drop}
 use Rattle.record.specs.declared.Field.{Field}
 use Rattle.record.specs.declared.Order.{Order}
 use Rattle.record.specs.declared.Order.the-variants.{Before, Same, After}
 use Rattle.record.specs.Value.{Has, held, seen}
-use Rattle.record.specs.Tests.{alike}
+use Rattle.record.specs.Choice.{choose}
+use Rattle.record.specs.Tests.{blank, alike}
 use Rattle.record.specs.Ordering.{order}
 use Rattle.record.proofs.Chain.{and-left, and-right, choose-yes, choose-no}
 use Rattle.record.proofs.Same.{alike-equal, alike-self}
 use Rattle.record.proofs.Orders.{order-equal, order-self, order-transitive}
+use Rattle.book.specs.declared.Kind.{Kind}
 use Rattle.book.specs.declared.Section.{Section}
+use Rattle.book.specs.declared.search.Listing.{Listing}
 use Rattle.book.proofs.Bytes.{before}
 use Rattle.book.proofs.Entries.{cut-count}
-use Rattle.book.specs.Book.{lent, entryCode, isBefore, follow, ascend, cut, entriesAt, Shelved, entryFor, flagOf}
+use Rattle.book.specs.Book.{lent, entryCode, isBefore, follow, ascend, cut, entriesAt, Shelved, entryFor, isNone, flagOf, said, listing, ShelvedAs}
 
 -- an entry among those that are cut
 cut-at : (w n : ℕ) (xs : List ℕ) (j : ℕ) → j < n → getD (cut w n xs) j [] ≡ take w (drop (j * w) xs)
@@ -200,3 +205,26 @@ unfolding flagOf
 no-flag e h =
     let n : length e ≤ 8 = omega arith in
     rw (List·getD-eq-default e 0 n)
+
+-- an entry that was found has bytes
+some-entry : (e : List ℕ) → eqb (length e) 0 ≡ isNone e
+unfolding isNone
+some-entry [] = refl
+some-entry (x ∷ e) = ne-eqb (suc (length e)) 0 (λ h. omega arith)
+
+pub entry-says : (e : List ℕ) (flagged : Bool) → flagged ≡ flagOf e → record { listed = not (eqb (length e) 0); flagged = flagged } ≡ said e
+unfolding said
+entry-says e flagged h = rw (some-entry e, h)
+
+-- nothing is said of a blank field, and of any other what its entry says
+pub unsaid : (width : ℕ) (es : List (List ℕ)) (v : List ℕ) → blank v ≡ true → record { listed = false; flagged = false } ≡ listing width es v
+unfolding listing said isNone flagOf choose
+unsaid width es v e = rw e
+
+pub said-of : (width : ℕ) (es : List (List ℕ)) (v e : List ℕ) (r : Listing) → blank v ≡ false → e ≡ entryFor width es v → r ≡ said e → r ≡ listing width es v
+unfolding listing choose
+said-of width es v e r b h q = q ∙ rw (h, b)
+
+-- a section of a kind has codes of its width
+pub said-as : (bytes : List ℕ) (k : Kind) (s : Section) (v : List ℕ) (r : Listing) → ShelvedAs bytes k s → r ≡ listing (s .code) (entriesAt bytes s) v → r ≡ listing (k .code) (entriesAt bytes s) v
+said-as bytes k s v r a h = h ∙ rw (a .coded)

@@ -7,6 +7,7 @@ use Rattle.book.proofs.Chains.{opened-one}
 use Rattle.book.proofs.reading.read_book.Reads as read-book
 use Rattle.book.proofs.search.find.Reads as find
 use Rattle.book.proofs.search.flag.Reads as flag
+use Rattle.book.proofs.search.look_up.Reads as look-up
 
 pub read-book-unique : OneResult read-book.Post
 read-book-unique κs a r s x y p q = opened-one _ r s p q
@@ -17,3 +18,6 @@ find-unique κs a r s x y p q = p ∙ sym q
 
 pub flag-unique : OneResult flag.Post
 flag-unique κs a r s x y p q = p ∙ sym q
+
+pub look-up-unique : OneResult look-up.Post
+look-up-unique κs a r s x y p q = p ∙ sym q

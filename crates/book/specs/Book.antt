@@ -1,7 +1,7 @@
 -- The lent code book (01 Code book): what a book is, said by the entries that it is made of.
 use Prim.Native.Nat.{ℕ, zero, suc, _+_, _*_, _/_, _%_, _≤_}
 use mathlib.Core.Path.{_≡_}
-use mathlib.Core.Bool.{Bool, true, false}
+use mathlib.Core.Bool.{Bool, true, false, not}
 use mathlib.Core.List.{List, [], _∷_, _++_}
 use lib.Dec.{leb, eqb}
 use lib.ListN.{length, take, drop, getD}
@@ -10,11 +10,12 @@ use Rattle.record.specs.declared.Order.{Order}
 use Rattle.record.specs.declared.Order.the-variants.{Before, Same, After}
 use Rattle.record.specs.Choice.{_and_, choose}
 use Rattle.record.specs.Value.{held, seen}
-use Rattle.record.specs.Tests.{every, alike}
+use Rattle.record.specs.Tests.{every, blank, alike}
 use Rattle.record.specs.Ordering.{order}
 use Rattle.book.specs.declared.Kind.{Kind}
 use Rattle.book.specs.declared.Section.{Section}
 use Rattle.book.specs.declared.Book.{Book}
+use Rattle.book.specs.declared.search.Listing.{Listing}
 
 -- the kinds: number, bytes of a code, bytes of an entry (a code, and in kinds 2 and 3 a flag)
 abbrev pub systemKind : Kind
@@ -208,16 +209,47 @@ unfoldable pub entryFor : ℕ → List (List ℕ) → List ℕ → List ℕ
 entryFor width [] x = []
 entryFor width (e ∷ es) x = choose (alike (entryCode width e) x) e (entryFor width es x)
 
+-- no entry
+unfoldable pub isNone : List ℕ → Bool
+isNone [] = true
+isNone (x ∷ xs) = false
+
 -- the flag of an entry of kind 2 or 3, after a code of eight bytes; an empty entry has none
 unfoldable pub flagOf : List ℕ → Bool
 flagOf e = eqb (getD e 8 0) 1
 
+-- what an entry says: listed unless there is none, and flagged (a CARS Reporter in kind 2, a credit in kind 3)
+unfoldable pub said : List ℕ → Listing
+said e = record { listed = not (isNone e); flagged = flagOf e }
+
+-- what these entries say of a field's code; a blank field has no code, and nothing is said of it
+unfoldable pub listing : ℕ → List (List ℕ) → List ℕ → Listing
+listing width es v = choose (blank v) (said []) (said (entryFor width es v))
+
+-- what stands at the places of a book
+unfoldable pub listedAt : List ℕ → Book → Contents
+listedAt bytes r =
+    record {
+      systems = entriesAt bytes (r .systems);
+      locations = entriesAt bytes (r .locations);
+      betcs = entriesAt bytes (r .betcs);
+      types = entriesAt bytes (r .types);
+      states = entriesAt bytes (r .states);
+      countries = entriesAt bytes (r .countries);
+      currencies = entriesAt bytes (r .currencies);
+    }
+
+-- a section of this kind, in which a code can be looked up
+pub record ShelvedAs (bytes : List ℕ) (k : Kind) (s : Section) : Type 0 where
+  pub coded : s .code ≡ k .code
+  pub shelved : Shelved bytes s
+
 -- every section of the book can be looked up in
 pub record Usable (bytes : List ℕ) (r : Book) : Type 0 where
-  pub systems : Shelved bytes (r .systems)
-  pub locations : Shelved bytes (r .locations)
-  pub betcs : Shelved bytes (r .betcs)
-  pub types : Shelved bytes (r .types)
-  pub states : Shelved bytes (r .states)
-  pub countries : Shelved bytes (r .countries)
-  pub currencies : Shelved bytes (r .currencies)
+  pub systems : ShelvedAs bytes systemKind (r .systems)
+  pub locations : ShelvedAs bytes locationKind (r .locations)
+  pub betcs : ShelvedAs bytes betcKind (r .betcs)
+  pub types : ShelvedAs bytes typeKind (r .types)
+  pub states : ShelvedAs bytes stateKind (r .states)
+  pub countries : ShelvedAs bytes countryKind (r .countries)
+  pub currencies : ShelvedAs bytes currencyKind (r .currencies)

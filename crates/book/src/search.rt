@@ -6,7 +6,13 @@ use record::Line;
 use record::Order;
 ghost use mathlib.Core.Path.{_≡_};
 ghost use Rattle.record.specs.Value.{Has, seen, held};
-ghost use Rattle.book.specs.Book.{Shelved, entriesAt, entryFor, flagOf};
+ghost use Rattle.book.specs.Book.{Shelved, entriesAt, entryFor, flagOf, listing, said};
+
+// What the book says of a code: whether it is listed, and whether its entry is flagged, a CARS Reporter in kind 2, a credit in kind 3.
+pub struct Listing {
+    pub listed: bool,
+    pub flagged: bool,
+}
 
 // The entry whose code the field holds, or an empty part where there is none.
 pub fn find<'a>(book: &'a [u8], section: Section, rec: &[u8], line: Line, field: Field) -> &'a [u8]
@@ -48,4 +54,28 @@ pub fn flag(entry: &[u8]) -> bool
         return false;
     }
     entry[8] == 1
+}
+
+// What an entry that was handed back says.
+fn say(entry: &[u8]) -> Listing
+    ensures { λ r. ⌜ r ≡ said (now (entry .entry)) ⌝ }
+{
+    let listed = entry.len() != 0;
+    let flagged = flag(entry);
+    Listing { listed, flagged }
+}
+
+// What the section says of the field's code. Nothing is looked up for a blank field.
+pub fn look_up(book: &[u8], section: Section, rec: &[u8], line: Line, field: Field) -> Listing
+    requires { ⌜ Shelved (now book) section × Has (now rec) field ⌝ }
+    ensures { λ r. ⌜ r ≡ listing (section .code) (entriesAt (now (book .entry)) section) (held (seen line (now (rec .entry))) field) ⌝ }
+{
+    if record::field_blank(rec, line, field) {
+        return Listing {
+            listed: false,
+            flagged: false,
+        };
+    }
+    let entry = find(book, section, rec, line, field);
+    say(entry)
 }

@@ -15,7 +15,8 @@ use Rattle.record.specs.Codes.{codeBytes, codeOf}
 use Rattle.nesting.specs.declared.reader.Place.{Place}
 use Rattle.nesting.specs.declared.reader.Place.the-variants.{Start, FileOpen, BatchOpen, PaymentOpen, BatchClosed, FileClosed}
 use Rattle.nesting.specs.declared.reader.State.{State}
-use Rattle.nesting.specs.Division.{Record, All, IsCheck, NoCheck, batchCode, paymentId, Payment, Batch, paymentsOnto, batchesOnto, LegalPayment}
+use Rattle.record.specs.Fields.{paymentId}
+use Rattle.nesting.specs.Division.{Record, All, IsCheck, NoCheck, batchCode, Payment, Batch, paymentsOnto, batchesOnto, LegalPayment}
 use Rattle.nesting.specs.Reader.{isCheck, moved, inBatch, inPayment, taken, next, after}
 use Rattle.nesting.proofs.Coding.{of-bytes, lettered, Beside, beside}
 use Rattle.nesting.proofs.Rest.{Tail, Batched, Unopened, RestAt, Rest, at}

@@ -16,7 +16,8 @@ use Rattle.record.specs.Codes.{letterByte, codeBytes, codeOf}
 use Rattle.nesting.specs.declared.reader.Place.{Place}
 use Rattle.nesting.specs.declared.reader.Place.the-variants.{Start, FileOpen, BatchOpen, PaymentOpen, BatchClosed, FileClosed}
 use Rattle.nesting.specs.declared.reader.State.{State}
-use Rattle.nesting.specs.Division.{Record, All, IsCheck, NoCheck, paymentId, Batch}
+use Rattle.record.specs.Fields.{paymentId}
+use Rattle.nesting.specs.Division.{Record, All, IsCheck, NoCheck, Batch}
 use Rattle.nesting.specs.Reader.{isCheck, moved, inBatch, inPayment, taken, next, after}
 use Rattle.nesting.proofs.Coding.{to-bytes, listed, Beside, beside}
 use Rattle.nesting.proofs.Rest.{Tail, Batched, Paying, Begun, Opened, Unopened, Ended, RestAt, Rest, at, from}

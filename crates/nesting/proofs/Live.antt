@@ -14,7 +14,8 @@ use Rattle.record.specs.Codes.{codeBytes}
 use Rattle.nesting.specs.declared.reader.Place.{Place}
 use Rattle.nesting.specs.declared.reader.Place.the-variants.{Start, FileOpen, BatchOpen, PaymentOpen, BatchClosed, FileClosed}
 use Rattle.nesting.specs.declared.reader.State.{State}
-use Rattle.nesting.specs.Division.{Record, All, Coded, Whole, paymentId}
+use Rattle.record.specs.Fields.{paymentId}
+use Rattle.nesting.specs.Division.{Record, All, Coded, Whole}
 use Rattle.nesting.specs.Reader.{start, moved, inBatch, inPayment, taken, next, after}
 use Rattle.nesting.proofs.Coding.{known, of-bytes, two-bytes}
 use Rattle.nesting.proofs.Rest.{Rest, at}

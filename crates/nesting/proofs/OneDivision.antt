@@ -9,7 +9,8 @@ use Rattle.record.specs.declared.codes.Code.the-variants.{FileHeader, Detail, P
 use Rattle.record.specs.declared.codes.Code.the-variants as code
 use Rattle.record.specs.Value.{held}
 use Rattle.record.specs.Codes.{letterByte, codeBytes}
-use Rattle.nesting.specs.Division.{Record, All, batchCode, detailCode, Coded, paymentId, Own, Payment, Batch, Division, paymentsOnto, batchesOnto, LegalPayment, LegalBatch, DivisionOf}
+use Rattle.record.specs.Fields.{paymentId}
+use Rattle.nesting.specs.Division.{Record, All, batchCode, detailCode, Coded, Own, Payment, Batch, Division, paymentsOnto, batchesOnto, LegalPayment, LegalBatch, DivisionOf}
 use Rattle.nesting.proofs.Coding.{of-bytes, lettered}
 
 -- what has been read: of a payment without its detail, of a batch without its header, and of the file

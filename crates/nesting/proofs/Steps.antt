@@ -18,7 +18,8 @@ use Rattle.record.proofs.Same.{alike-equal, alike-self}
 use Rattle.nesting.specs.declared.reader.Place.{Place}
 use Rattle.nesting.specs.declared.reader.Place.the-variants.{Start, FileOpen, BatchOpen, PaymentOpen, BatchClosed}
 use Rattle.nesting.specs.declared.reader.State.{State}
-use Rattle.nesting.specs.Division.{Record, paymentId}
+use Rattle.record.specs.Fields.{paymentId}
+use Rattle.nesting.specs.Division.{Record}
 use Rattle.nesting.specs.Reader.{placeNumber, isAt, sameLetter, isCheck, besides, complete, owns, opensBatch, opensPayment, takesParty, takesAccount, takesProcurement, fits, follows}
 use Rattle.nesting.proofs.Coding.{at-place, same-letter}
 

@@ -7,7 +7,8 @@ use native.Mathlib.Omega.{arith}
 use lib.ListN.{length, take, drop, replicate, length-append, length-replicate, length-take, length-drop}
 use lib.Seq.{take-at, drop-at}
 use Rattle.record.specs.Value.{held}
-use Rattle.nesting.specs.Division.{Record, All, Coded, Whole, paymentId}
+use Rattle.record.specs.Fields.{paymentId}
+use Rattle.nesting.specs.Division.{Record, All, Coded, Whole}
 
 -- of the members of a beginning, of an end, of two lists, of equal ones
 pub all-take : {A : Type 0} (Q : A → Type 0) (n : ℕ) (xs : List A) → All Q xs → All Q (take n xs)

@@ -4,9 +4,8 @@ use mathlib.Core.Logic.{_⊎_}
 use mathlib.Core.List.{List, [], _∷_, _++_}
 use Prim.Native.Nat.{ℕ, _+_, _<_, _≤_}
 use lib.ListN.{length}
-use Rattle.record.specs.declared.Field.{Field}
 use Rattle.record.specs.Value.{held}
-use Rattle.record.specs.Codes.{recordCode}
+use Rattle.record.specs.Fields.{recordCode, paymentId}
 
 -- a record is the list of its bytes
 abbrev pub Record : Type 0
@@ -63,10 +62,6 @@ detailCode letter = 0xC4 ∷ letter ∷ []
 -- the record has this code
 abbrev pub Coded : List ℕ → Record → Type 0
 Coded code r = held r recordCode ≡ code
-
--- positions 3-22 (01 Nesting; 004 fields 23, 65, 77 and 91)
-abbrev pub paymentId : Field
-paymentId = record { start = 3; width = 20 }
 
 -- the record has this code and this Payment ID
 abbrev pub Own : List ℕ → List ℕ → Record → Type 0

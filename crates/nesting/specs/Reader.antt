@@ -17,7 +17,8 @@ use Rattle.nesting.specs.declared.Verdict.the-variants.{Legal, Refused}
 use Rattle.nesting.specs.declared.reader.Place.{Place}
 use Rattle.nesting.specs.declared.reader.Place.the-variants.{Start, FileOpen, BatchOpen, PaymentOpen, BatchClosed, FileClosed}
 use Rattle.nesting.specs.declared.reader.State.{State}
-use Rattle.nesting.specs.Division.{Record, paymentId}
+use Rattle.record.specs.Fields.{paymentId}
+use Rattle.nesting.specs.Division.{Record}
 
 -- a number for each place, by which two are compared
 unfoldable pub placeNumber : Place → ℕ

@@ -18,19 +18,10 @@ use Rattle.record.proofs.Every.{digit-range}
 use Rattle.money.specs.declared.Amount.{Amount}
 use Rattle.money.specs.Money.{worth, split, cents, Whole}
 use Rattle.money.proofs.Amounts.{worth-split}
-use Rattle.book.specs.declared.Book.{Book}
-use Rattle.book.specs.declared.Section.{Section}
-use Rattle.book.specs.Book.{Shelved, Usable}
 use Rattle.reasons.specs.declared.Finding.{Finding}
-use Rattle.reasons.specs.declared.lookups.Shelf.{Shelf}
-use Rattle.reasons.specs.declared.lookups.Shelf.the-variants.{Locations, Betcs, Types, States, Countries, Currencies}
 use Rattle.reasons.specs.Findings.{noted}
 use Rattle.reasons.specs.Lists.{oneOf}
-use Rattle.reasons.specs.Reasons.{shelf, isNone, symbolAndSerial}
-
--- what is known of a thing is known of what it equals
-pub known : {A B : Type 0} (f : A → B) (x y : A) (r : B) → x ≡ y → r ≡ f y → r ≡ f x
-known f x y r e h = h ∙ ap f (sym e)
+use Rattle.reasons.specs.Reasons.{symbolAndSerial}
 
 -- a value in a list of values
 pub one-here : (x : List ℕ) (xs : List (List ℕ)) (v : List ℕ) → alike v x ≡ true → oneOf (x ∷ xs) v ≡ true
@@ -138,28 +129,6 @@ module _ (f x : Finding) where
   pub note-new : f .reason ≡ 0 → (x .reason ≡ 0 → ⊥) → x ≡ noted f x
   unfolding noted choose
   note-new h k = rw (eq-eqb (f .reason) 0 h, ne-eqb (x .reason) 0 k)
-
--- an entry that was found has bytes
-pub none-is : (e x : List ℕ) → e ≡ x → eqb (length e) 0 ≡ isNone x
-unfolding isNone
-none-is e x h = rw h (go x)
-  where
-    go : (y : List ℕ) → eqb (length y) 0 ≡ isNone y
-    go [] = refl
-    go (z ∷ y) = ne-eqb (suc (length y)) 0 (λ h. omega arith)
-
--- every kind can be looked up in
-pub shelved : (bytes : List ℕ) (b : Book) (k : Shelf) (s : Section) → Usable bytes b → s ≡ shelf b k → Shelved bytes s
-unfolding shelf
-shelved bytes b k s u e = rw e (go k)
-  where
-    go : (j : Shelf) → Shelved bytes (shelf b j)
-    go Locations = u .locations
-    go Betcs = u .betcs
-    go Types = u .types
-    go States = u .states
-    go Countries = u .countries
-    go Currencies = u .currencies
 
 -- a test of every byte, from the front: what is left decides
 unfoldable pub Left : (ℕ → Bool) → List ℕ → ℕ → Type 0

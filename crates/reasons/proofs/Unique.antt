@@ -17,7 +17,6 @@ use Rattle.reasons.proofs.lists.business_function.Reads as business-fun
 use Rattle.reasons.proofs.lists.entry_class.Reads as entry-class
 use Rattle.reasons.proofs.lists.transaction_code.Reads as transaction-code
 use Rattle.reasons.proofs.lists.payer_mechanism.Reads as payer-mechanism
-use Rattle.reasons.proofs.lookups.is_flagged.Reads as is-flagged
 use Rattle.reasons.proofs.lookups.in_book.Reads as in-book
 use Rattle.reasons.proofs.lookups.if_in_book.Reads as if-in-book
 use Rattle.reasons.proofs.values.required.Reads as required
@@ -74,9 +73,6 @@ transaction-code-unique κs a r s x y p q = p ∙ sym q
 
 pub payer-mechanism-unique : OneResult payer-mechanism.Post
 payer-mechanism-unique κs a r s x y p q = p ∙ sym q
-
-pub is-flagged-unique : OneResult is-flagged.Post
-is-flagged-unique κs a r s x y p q = p ∙ sym q
 
 pub in-book-unique : OneResult in-book.Post
 in-book-unique κs a r s x y p q = p ∙ sym q

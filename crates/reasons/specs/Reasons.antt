@@ -10,11 +10,6 @@ use Rattle.record.specs.Numeral.{numeral}
 use Rattle.record.specs.Routing.{routing}
 use Rattle.money.specs.Money.{cents}
 use Rattle.calendar.specs.Calendar.{dashedDate, plainDate, monthYear}
-use Rattle.book.specs.declared.Section.{Section}
-use Rattle.book.specs.declared.Book.{Book}
-use Rattle.book.specs.Book.{entriesAt, entryFor}
-use Rattle.reasons.specs.declared.lookups.Shelf.{Shelf}
-use Rattle.reasons.specs.declared.lookups.Shelf.the-variants.{Locations, Betcs, Types, States, Countries, Currencies}
 use Rattle.reasons.specs.Lists.{oneOf}
 
 -- required
@@ -65,31 +60,13 @@ ifPostal v = choose (blank v) 0 (choose (zeros v) 0 (choose (digits v) 0 2))
 unfoldable pub ifNumber : List ℕ → ℕ
 ifNumber v = choose (blank v) 0 (choose (digits v) 0 2)
 
--- where the book keeps a kind
-unfoldable pub shelf : Book → Shelf → Section
-shelf b Locations = b .locations
-shelf b Betcs = b .betcs
-shelf b Types = b .types
-shelf b States = b .states
-shelf b Countries = b .countries
-shelf b Currencies = b .currencies
+-- required, in the book: listed there or not
+unfoldable pub inBook : Bool → List ℕ → ℕ
+inBook listed v = choose (blank v) 1 (choose listed 0 4)
 
--- no entry
-unfoldable pub isNone : List ℕ → Bool
-isNone [] = true
-isNone (x ∷ xs) = false
-
--- the entry for a value
-unfoldable pub entry : List ℕ → Book → Shelf → List ℕ → List ℕ
-entry bytes b k v = entryFor (shelf b k .code) (entriesAt bytes (shelf b k)) v
-
--- required, in a kind of the book
-unfoldable pub inBook : List ℕ → Book → Shelf → List ℕ → ℕ
-inBook bytes b k v = choose (blank v) 1 (choose (isNone (entry bytes b k v)) 4 0)
-
--- if filled, in a kind of the book
-unfoldable pub ifInBook : List ℕ → Book → Shelf → List ℕ → ℕ
-ifInBook bytes b k v = choose (blank v) 0 (choose (isNone (entry bytes b k v)) 4 0)
+-- if filled, in the book
+unfoldable pub ifInBook : Bool → List ℕ → ℕ
+ifInBook listed v = choose (blank v) 0 (choose listed 0 4)
 
 -- an amount above zero (field 24)
 unfoldable pub positive : List ℕ → ℕ

@@ -1,12 +1,12 @@
 -- The record codes of 004 section 1.2, in EBCDIC (01 Bytes).
 use Prim.Native.Nat.{ℕ}
 use mathlib.Core.List.{List, [], _∷_}
-use Rattle.record.specs.declared.Field.{Field}
 use Rattle.record.specs.declared.codes.Letter.{Letter}
 use Rattle.record.specs.declared.codes.Letter.the-variants.{N, C, W, I, A}
 use Rattle.record.specs.declared.codes.Code.{Code}
 use Rattle.record.specs.declared.codes.Code.the-variants.{FileHeader, Batch, Detail, Party, Account, Procurement, BatchTrailer, FileTrailer, Unknown}
 use Rattle.record.specs.Choice.{choose}
+use Rattle.record.specs.Fields.{recordCode}
 use Rattle.record.specs.Value.{held}
 use Rattle.record.specs.Tests.{alike}
 
@@ -48,10 +48,6 @@ unfoldable pub codeIn : List Code → List ℕ → Code
 codeIn [] xs = Unknown
 codeIn (c ∷ cs) xs = choose (alike xs (codeBytes c)) c (codeIn cs xs)
 
--- the first two bytes of a record (01 Bytes; 004 fields 1, 5, 22, 64, 76, 90, 98, 102)
-abbrev pub recordCode : Field
-recordCode = record { start = 1; width = 2 }
-
--- what a record is
+-- what a record is, by its first two bytes (01 Bytes)
 unfoldable pub codeOf : List ℕ → Code
 codeOf rec = codeIn codes (held rec recordCode)

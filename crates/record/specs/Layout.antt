@@ -1,10 +1,11 @@
--- The layout of document 004, chapter 2: a table for each record, with the number, the start position (counted from 1) and the length of each field.
+-- The layout of document 004, chapter 2: a table for each record, with the number of each field, its start position (counted from 1) and its length.
 use Prim.Native.Nat.{ℕ, _+_}
 use mathlib.Core.Bool.{Bool, true, false}
 use mathlib.Core.List.{List, [], _∷_, _++_, map}
 use lib.Dec.{eqb}
 use Rattle.record.specs.declared.Field.{Field}
 use Rattle.record.specs.Choice.{_and_, choose}
+use Rattle.record.specs.Fields.{span, recordCode, inputSystem, versionIdentifier, scheduleNumber, summaryNumber, summaryDate, summaryTotalAmount, voucherFormCode, originatingDi, originatingDfi, agencyLocationCode, disbursingOfficeSymbol, isCourtesyCheck, checkBatchCreationDate, checkSymbolNumber, checkFirstSerialNumber, checkAccountingMonthAndYear, paymentId, amount, isVoidedCheck, payeeName, paymentTypeCode, paymentLocationCode, stateCode, postalCode, countryCode, receivingDi, receivingDfi, businessFunctionCode, achTransactionCode, payerMechanism, originalCurrencyCode, originalScheduleNumber, originalPaymentId, originalSummaryDate, checkSerialNumber, checkIssueDate, standardEntryClassCode, partyName, agencyIdentifier, mainAccountCode, subAccountCode, businessEventTypeCode, accountAmount, procurementAmount, batchTotalCount, batchTotalAmount, totalCountRecords, totalCount, totalAmount}
 
 -- the records of 004, sections 2.1 to 2.8
 pub data Record : Type 0 where
@@ -24,136 +25,136 @@ pub record Row : Type 0 where
   pub unused : Bool
 
 -- a row whose bytes are looked at
-abbrev pub field : ℕ → ℕ → ℕ → Row
-field n s w = record { number = n; position = record { start = s; width = w }; unused = false }
+abbrev pub field : ℕ → Field → Row
+field n position = record { number = n; position = position; unused = false }
 
 -- a row that 004 calls a filler: never looked at (01 Bytes)
-abbrev pub filler : ℕ → ℕ → ℕ → Row
-filler n s w = record { number = n; position = record { start = s; width = w }; unused = true }
+abbrev pub filler : ℕ → Field → Row
+filler n position = record { number = n; position = position; unused = true }
 
--- 004 chapter 2: field number, start position, length
+-- 004 chapter 2: field number, and the field by its name or by its start position and length
 unfoldable pub layout : Record → List Row
 layout FileHeader =
-    field 1 1 2  -- Record Code
-    ∷ field 2 3 40  -- InputSystem
-    ∷ field 3 43 3  -- Version Identifier
-    ∷ filler 4 46 805
+    field 1 recordCode
+    ∷ field 2 inputSystem
+    ∷ field 3 versionIdentifier
+    ∷ filler 4 (span 46 805)
     ∷ []
 layout BatchHeader =
-    field 5 1 2  -- Record Code
-    ∷ field 6 3 14  -- Schedule Number
-    ∷ field 7 17 6  -- Summary Number
-    ∷ field 8 23 10  -- Summary Date
-    ∷ field 9 33 20  -- Summary Total Amount
-    ∷ field 10 53 4  -- Voucher Form Code
-    ∷ filler 11 57 3
-    ∷ field 12 60 9  -- Originating DI
-    ∷ field 13 69 9  -- OriginatingDFI
-    ∷ field 14 78 8  -- AgencyLocationCode
-    ∷ field 15 86 4  -- Disbursing Office Symbol
-    ∷ field 16 90 1  -- IsCourtesy Check?
-    ∷ field 17 91 8  -- Check Batch Creation Date
-    ∷ field 18 99 4  -- CheckSymbolNumber
-    ∷ field 19 103 8  -- Check First Serial Number
-    ∷ field 20 111 4  -- Check Accounting Month And Year
-    ∷ filler 21 115 736
+    field 5 recordCode
+    ∷ field 6 scheduleNumber
+    ∷ field 7 summaryNumber
+    ∷ field 8 summaryDate
+    ∷ field 9 summaryTotalAmount
+    ∷ field 10 voucherFormCode
+    ∷ filler 11 (span 57 3)
+    ∷ field 12 originatingDi
+    ∷ field 13 originatingDfi
+    ∷ field 14 agencyLocationCode
+    ∷ field 15 disbursingOfficeSymbol
+    ∷ field 16 isCourtesyCheck
+    ∷ field 17 checkBatchCreationDate
+    ∷ field 18 checkSymbolNumber
+    ∷ field 19 checkFirstSerialNumber
+    ∷ field 20 checkAccountingMonthAndYear
+    ∷ filler 21 (span 115 736)
     ∷ []
 layout Detail =
-    field 22 1 2  -- Record Code
-    ∷ field 23 3 20  -- PaymentID
-    ∷ field 24 23 20  -- Amount
-    ∷ field 25 43 1  -- IsVoided Check?
-    ∷ field 26 44 47  -- PayeeName
-    ∷ field 27 91 16  -- PayeeIdentifier
-    ∷ field 28 107 25  -- PaymentTypeCode
-    ∷ field 29 132 8  -- AgencyLocationCode
-    ∷ field 30 140 40  -- PayeeAddressLine1
-    ∷ field 31 180 40  -- PayeeAddressLine2
-    ∷ field 32 220 40  -- PayeeAddressLine3
-    ∷ field 33 260 40  -- PayeeAddressLine4
-    ∷ field 34 300 50  -- CityName
-    ∷ field 35 350 2  -- StateCode
-    ∷ field 36 352 5  -- PostalCode
-    ∷ field 37 357 4  -- PostalCodeExtension
-    ∷ field 38 361 2  -- CountryCode
-    ∷ field 39 363 50  -- RegionName
-    ∷ field 40 413 3  -- ConsularCode
-    ∷ field 41 416 10  -- ForeignPostalCode
-    ∷ field 42 426 9  -- ReceivingDI
-    ∷ field 43 435 9  -- ReceivingDFI
-    ∷ field 44 444 3  -- Business Function Code
-    ∷ field 45 447 22  -- IMAD
-    ∷ field 46 469 22  -- OMAD
-    ∷ field 47 491 15  -- ACH_TraceNumber
-    ∷ field 48 506 2  -- ACH_Transaction Code
-    ∷ field 49 508 15  -- ACH_OriginalTraceNumber
-    ∷ field 50 523 3  -- ACH_Return Reason Code
-    ∷ field 51 526 20  -- Payer Mechanism
-    ∷ field 52 546 3  -- Original Currency Code
-    ∷ field 53 549 11  -- BusinessIdentifierCode
-    ∷ field 54 560 14  -- Original Schedule Number
-    ∷ field 55 574 20  -- Original PaymentID
-    ∷ field 56 594 10  -- Original Summary Date
-    ∷ field 57 604 50  -- DFI_AccountNumber
-    ∷ field 58 654 8  -- Check Serial Number
-    ∷ field 59 662 8  -- Check Issue Date
-    ∷ field 60 670 1  -- AgencyPaymentTypeCode
-    ∷ field 61 671 3  -- DisbursementStatusReasonCode
-    ∷ field 62 674 3  -- StandardEntryClassCode
-    ∷ filler 63 677 174
+    field 22 recordCode
+    ∷ field 23 paymentId
+    ∷ field 24 amount
+    ∷ field 25 isVoidedCheck
+    ∷ field 26 payeeName
+    ∷ field 27 (span 91 16)  -- PayeeIdentifier
+    ∷ field 28 paymentTypeCode
+    ∷ field 29 paymentLocationCode
+    ∷ field 30 (span 140 40)  -- PayeeAddressLine1
+    ∷ field 31 (span 180 40)  -- PayeeAddressLine2
+    ∷ field 32 (span 220 40)  -- PayeeAddressLine3
+    ∷ field 33 (span 260 40)  -- PayeeAddressLine4
+    ∷ field 34 (span 300 50)  -- CityName
+    ∷ field 35 stateCode
+    ∷ field 36 postalCode
+    ∷ field 37 (span 357 4)  -- PostalCodeExtension
+    ∷ field 38 countryCode
+    ∷ field 39 (span 363 50)  -- RegionName
+    ∷ field 40 (span 413 3)  -- ConsularCode
+    ∷ field 41 (span 416 10)  -- ForeignPostalCode
+    ∷ field 42 receivingDi
+    ∷ field 43 receivingDfi
+    ∷ field 44 businessFunctionCode
+    ∷ field 45 (span 447 22)  -- IMAD
+    ∷ field 46 (span 469 22)  -- OMAD
+    ∷ field 47 (span 491 15)  -- ACH_TraceNumber
+    ∷ field 48 achTransactionCode
+    ∷ field 49 (span 508 15)  -- ACH_OriginalTraceNumber
+    ∷ field 50 (span 523 3)  -- ACH_Return Reason Code
+    ∷ field 51 payerMechanism
+    ∷ field 52 originalCurrencyCode
+    ∷ field 53 (span 549 11)  -- BusinessIdentifierCode
+    ∷ field 54 originalScheduleNumber
+    ∷ field 55 originalPaymentId
+    ∷ field 56 originalSummaryDate
+    ∷ field 57 (span 604 50)  -- DFI_AccountNumber
+    ∷ field 58 checkSerialNumber
+    ∷ field 59 checkIssueDate
+    ∷ field 60 (span 670 1)  -- AgencyPaymentTypeCode
+    ∷ field 61 (span 671 3)  -- DisbursementStatusReasonCode
+    ∷ field 62 standardEntryClassCode
+    ∷ filler 63 (span 677 174)
     ∷ []
 layout Party =
-    field 64 1 2  -- Record Code
-    ∷ field 65 3 20  -- PaymentID
-    ∷ field 66 23 150  -- PartyName
-    ∷ field 67 173 1  -- IsRepresentativePayee?
-    ∷ field 68 174 50  -- FirstName
-    ∷ field 69 224 50  -- MiddleName
-    ∷ field 70 274 50  -- SurName
-    ∷ field 71 324 5  -- NameSuffix
-    ∷ field 72 329 9  -- TIN
-    ∷ field 73 338 4  -- TIN_Code
-    ∷ field 74 342 9  -- DUNS_Number
-    ∷ filler 75 351 500
+    field 64 recordCode
+    ∷ field 65 paymentId
+    ∷ field 66 partyName
+    ∷ field 67 (span 173 1)  -- IsRepresentativePayee?
+    ∷ field 68 (span 174 50)  -- FirstName
+    ∷ field 69 (span 224 50)  -- MiddleName
+    ∷ field 70 (span 274 50)  -- SurName
+    ∷ field 71 (span 324 5)  -- NameSuffix
+    ∷ field 72 (span 329 9)  -- TIN
+    ∷ field 73 (span 338 4)  -- TIN_Code
+    ∷ field 74 (span 342 9)  -- DUNS_Number
+    ∷ filler 75 (span 351 500)
     ∷ []
 layout Account =
-    field 76 1 2  -- Record Code
-    ∷ field 77 3 20  -- PaymentID
-    ∷ field 78 23 2  -- Sub-levelPrefixCode
-    ∷ field 79 25 3  -- AllocationTransfer AgencyIdentifier
-    ∷ field 80 28 3  -- AgencyIdentifier
-    ∷ field 81 31 4  -- BeginningPeriodOfAvailability
-    ∷ field 82 35 4  -- EndingPeriodOfAvailability
-    ∷ field 83 39 1  -- AvailabilityTypeCode
-    ∷ field 84 40 4  -- MainAccountCode
-    ∷ field 85 44 3  -- Sub-accountCode
-    ∷ field 86 47 8  -- BusinessEvent TypeCode
-    ∷ field 87 55 20  -- Amount
-    ∷ field 88 75 1  -- IsCredit?
-    ∷ filler 89 76 775
+    field 76 recordCode
+    ∷ field 77 paymentId
+    ∷ field 78 (span 23 2)  -- Sub-levelPrefixCode
+    ∷ field 79 (span 25 3)  -- AllocationTransfer AgencyIdentifier
+    ∷ field 80 agencyIdentifier
+    ∷ field 81 (span 31 4)  -- BeginningPeriodOfAvailability
+    ∷ field 82 (span 35 4)  -- EndingPeriodOfAvailability
+    ∷ field 83 (span 39 1)  -- AvailabilityTypeCode
+    ∷ field 84 mainAccountCode
+    ∷ field 85 subAccountCode
+    ∷ field 86 businessEventTypeCode
+    ∷ field 87 accountAmount
+    ∷ field 88 (span 75 1)  -- IsCredit?
+    ∷ filler 89 (span 76 775)
     ∷ []
 layout Procurement =
-    field 90 1 2  -- Record Code
-    ∷ field 91 3 20  -- PaymentID
-    ∷ field 92 23 50  -- ProcurementInstrumentIdentifier
-    ∷ field 93 73 4  -- ProcurementAgencyIdentifier
-    ∷ field 94 77 50  -- IDV_ProcurementInstrumentIdentifier
-    ∷ field 95 127 4  -- IDV_ProcurementAgencyIdentifier
-    ∷ field 96 131 20  -- Amount
-    ∷ filler 97 151 700
+    field 90 recordCode
+    ∷ field 91 paymentId
+    ∷ field 92 (span 23 50)  -- ProcurementInstrumentIdentifier
+    ∷ field 93 (span 73 4)  -- ProcurementAgencyIdentifier
+    ∷ field 94 (span 77 50)  -- IDV_ProcurementInstrumentIdentifier
+    ∷ field 95 (span 127 4)  -- IDV_ProcurementAgencyIdentifier
+    ∷ field 96 procurementAmount
+    ∷ filler 97 (span 151 700)
     ∷ []
 layout BatchTrailer =
-    field 98 1 2  -- Record Code
-    ∷ field 99 3 8  -- TotalCount
-    ∷ field 100 11 20  -- TotalAmount
-    ∷ filler 101 31 820
+    field 98 recordCode
+    ∷ field 99 batchTotalCount
+    ∷ field 100 batchTotalAmount
+    ∷ filler 101 (span 31 820)
     ∷ []
 layout FileTrailer =
-    field 102 1 2  -- Record Code
-    ∷ field 103 3 18  -- TotalCount_Records
-    ∷ field 104 21 18  -- TotalCount
-    ∷ field 105 39 20  -- TotalAmount
-    ∷ filler 106 59 792
+    field 102 recordCode
+    ∷ field 103 totalCountRecords
+    ∷ field 104 totalCount
+    ∷ field 105 totalAmount
+    ∷ filler 106 (span 59 792)
     ∷ []
 
 -- the records in the order of 004

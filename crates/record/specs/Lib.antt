@@ -1,4 +1,5 @@
 pub mod Choice
+pub mod Fields
 pub mod Layout
 pub mod Value
 pub mod Tests

@@ -5,7 +5,8 @@ ghost use mathlib.Core.Path.{_≡_};
 ghost use Prim.Native.Nat.{_≤_};
 ghost use lib.ListN.{length};
 ghost use Rattle.record.specs.Value.{seen, held};
-ghost use Rattle.record.specs.Codes.{codeOf, codeIn, recordCode, details, batches, frames};
+ghost use Rattle.record.specs.Fields.{recordCode};
+ghost use Rattle.record.specs.Codes.{codeOf, codeIn, details, batches, frames};
 
 // The kind of a batch and of its details.
 pub enum Letter {

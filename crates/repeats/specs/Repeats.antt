@@ -8,19 +8,16 @@ use Rattle.record.specs.declared.Order.the-variants.{After}
 use Rattle.record.specs.declared.codes.Code.{Code}
 use Rattle.record.specs.declared.codes.Code.the-variants.{FileHeader, Batch, Detail, Party, Account, Procurement, BatchTrailer, FileTrailer, Unknown}
 use Rattle.record.specs.Choice.{_and_, _or_, choose}
+use Rattle.record.specs.Fields.{scheduleNumber, paymentId}
 use Rattle.record.specs.Value.{held}
 use Rattle.record.specs.Tests.{alike}
 use Rattle.record.specs.Ordering.{order}
 use Rattle.record.specs.Codes.{codeOf}
-use Rattle.nesting.specs.Division.{Record, paymentId}
+use Rattle.nesting.specs.Division.{Record}
 use Rattle.repeats.specs.declared.Repeat.{Repeat}
 use Rattle.repeats.specs.declared.Repeat.the-variants.{At, Nowhere}
 use Rattle.repeats.specs.declared.Sort.{Sort}
 use Rattle.repeats.specs.declared.Sort.the-variants.{Payments, Batches}
-
--- positions 3-16 of a batch header (004 field 6)
-abbrev pub scheduleNumber : Field
-scheduleNumber = record { start = 3; width = 14 }
 
 -- what is numbered: a payment's detail by its Payment ID, a batch's header by its schedule number
 unfoldable pub numbering : Sort → Field

@@ -9,7 +9,8 @@ use Rattle.book.specs.declared.Book.{Book}
 use Rattle.nesting.specs.Division.{Batch, Division, DivisionOf, batchLines, lines}
 use Rattle.nesting.specs.Records.{records, Cuttable}
 use Rattle.report.specs.Rows.{rowsBytes}
-use Rattle.repeats.specs.Repeats.{scheduleNumber, member}
+use Rattle.record.specs.Fields.{scheduleNumber}
+use Rattle.repeats.specs.Repeats.{member}
 use Rattle.batch.specs.declared.Row.{Row}
 use Rattle.batch.specs.Batch.{rowOf}
 

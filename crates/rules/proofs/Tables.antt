@@ -8,29 +8,28 @@ use Rattle.record.specs.declared.codes.Letter.the-variants.{N, C, W, I, A}
 use Rattle.record.specs.Choice.{_and_, _or_, choose}
 use Rattle.record.specs.Layout as place
 use Rattle.record.specs.Codes.{letterByte}
-use Rattle.book.specs.declared.Book.{Book}
 use Rattle.reasons.specs.declared.Finding.{Finding}
 use Rattle.reasons.specs.Findings.{after}
 use Rattle.reasons.proofs.Firsts.{after-append}
 use Rattle.rules.specs.declared.Context.{Context}
 use Rattle.rules.specs.Rules.{Rule, header, detail, party, account, procurement, loneProcurement, trailer, among, rows, rulesFor, findings}
 
-module _ (bytes : List ℕ) (b : Book) (c : Context) (n : ℕ) (rec : List ℕ) where
-  findings-append : (xs ys : List Rule) → findings bytes b c n rec (xs ++ ys) ≡ findings bytes b c n rec xs ++ findings bytes b c n rec ys
+module _ (c : Context) (n : ℕ) (rec : List ℕ) where
+  findings-append : (xs ys : List Rule) → findings c n rec (xs ++ ys) ≡ findings c n rec xs ++ findings c n rec ys
   unfolding findings
   findings-append [] ys = refl
   findings-append (x ∷ xs) ys = rw (findings-append xs ys)
 
   -- one part after another
-  pub joined : (f g z : Finding) (xs ys zs : List Rule) → zs ≡ xs ++ ys → g ≡ after f (findings bytes b c n rec xs) → z ≡ after g (findings bytes b c n rec ys)
-      → z ≡ after f (findings bytes b c n rec zs)
-  joined f g z xs ys zs e h k = k ∙ rw (e, findings-append xs ys, after-append f (findings bytes b c n rec xs) (findings bytes b c n rec ys), h)
+  pub joined : (f g z : Finding) (xs ys zs : List Rule) → zs ≡ xs ++ ys → g ≡ after f (findings c n rec xs) → z ≡ after g (findings c n rec ys)
+      → z ≡ after f (findings c n rec zs)
+  joined f g z xs ys zs e h k = k ∙ rw (e, findings-append xs ys, after-append f (findings c n rec xs) (findings c n rec ys), h)
 
   -- the rules of a letter that is known
-  pub lettered : (f z : Finding) (l m : Letter) (rs : List Rule) → l ≡ m → z ≡ after f (findings bytes b c n rec (rulesFor m rs)) → z ≡ after f (findings bytes b c n rec (rulesFor l rs))
+  pub lettered : (f z : Finding) (l m : Letter) (rs : List Rule) → l ≡ m → z ≡ after f (findings c n rec (rulesFor m rs)) → z ≡ after f (findings c n rec (rulesFor l rs))
   lettered f z l m rs e h = rw e h
 
-  pub nothing : (f : Finding) (rs : List Rule) → rs ≡ [] → f ≡ after f (findings bytes b c n rec rs)
+  pub nothing : (f : Finding) (rs : List Rule) → rs ≡ [] → f ≡ after f (findings c n rec rs)
   unfolding findings after
   nothing f rs e = rw e
 

@@ -1,5 +1,5 @@
 -- The rules of one record (01 Header, Detail, Others), as tables in the order of 004's fields.
-use Prim.Native.Nat.{ℕ, _+_, _-_, _<_}
+use Prim.Native.Nat.{ℕ, _+_, _<_}
 use mathlib.Core.Bool.{Bool, false}
 use mathlib.Core.List.{List, [], _∷_}
 use lib.Dec.{eqb, leb}
@@ -7,18 +7,35 @@ use Rattle.record.specs.declared.Field.{Field}
 use Rattle.record.specs.declared.codes.Letter.{Letter}
 use Rattle.record.specs.declared.codes.Letter.the-variants.{N, C, W, I, A}
 use Rattle.record.specs.Choice.{_and_, _or_, choose}
+use Rattle.record.specs.Fields.{scheduleNumber, summaryNumber, summaryDate, summaryTotalAmount, voucherFormCode, originatingDi, originatingDfi, agencyLocationCode, disbursingOfficeSymbol, isCourtesyCheck, checkBatchCreationDate, checkSymbolNumber, checkFirstSerialNumber, checkAccountingMonthAndYear, paymentId, amount, isVoidedCheck, payeeName, paymentTypeCode, paymentLocationCode, stateCode, postalCode, countryCode, receivingDi, receivingDfi, businessFunctionCode, achTransactionCode, payerMechanism, originalCurrencyCode, originalScheduleNumber, originalPaymentId, originalSummaryDate, checkSerialNumber, checkIssueDate, standardEntryClassCode, partyName, agencyIdentifier, mainAccountCode, subAccountCode, businessEventTypeCode, accountAmount, procurementAmount, batchTotalCount, batchTotalAmount}
 use Rattle.record.specs.Value.{held}
 use Rattle.record.specs.Tests.{alike}
 use Rattle.record.specs.Codes.{letterByte}
 use Rattle.money.specs.Money.{worth, Whole}
-use Rattle.book.specs.declared.Book.{Book}
 use Rattle.reasons.specs.declared.Finding.{Finding}
-use Rattle.reasons.specs.declared.lookups.Shelf.{Shelf}
-use Rattle.reasons.specs.declared.lookups.Shelf.the-variants.{Locations, Betcs, Types, States, Countries, Currencies}
 use Rattle.reasons.specs.Findings.{found}
 use Rattle.reasons.specs.Lists.{voucherForms, courtesyChecks, voidedChecks, businessFunctions, transactionCodes, payerMechanisms, entryClasses}
 use Rattle.reasons.specs.Reasons.{required, number, unbroken, dashedDay, plainDay, monthAndYear, routingNumber, listed, ifListed, ifCoded, ifPostal, ifNumber, inBook, ifInBook, positive, checkAmount, checkSymbol, numberIs, amountIs, unrepeated, composed}
+use Rattle.rules.specs.declared.Codes.{Codes}
 use Rattle.rules.specs.declared.Context.{Context}
+
+-- the kinds of the code book that the fields of a batch are looked up in (01 Code book, kinds 2 to 7)
+pub data Shelf : Type 0 where
+  Locations : Shelf
+  Betcs : Shelf
+  Types : Shelf
+  States : Shelf
+  Countries : Shelf
+  Currencies : Shelf
+
+-- the record's code of this kind is in the book
+unfoldable pub inKind : Codes → Shelf → Bool
+inKind k Locations = k .locations
+inKind k Betcs = k .betcs
+inKind k Types = k .types
+inKind k States = k .states
+inKind k Countries = k .countries
+inKind k Currencies = k .currencies
 
 -- what document 01 asks of a field
 pub data Test : Type 0 where
@@ -54,19 +71,15 @@ pub record Kept (c : Context) : Type 0 where
   pub payments : c .payments < 65536
   pub total : Whole (c .total)
 
--- a row: the field, its first and its last position in 004, the letters that it applies to, what is asked
+-- a row: 004's number of the field, the field, the letters that it applies to, what is asked
 pub record Rule : Type 0 where
   pub field : ℕ
   pub position : Field
   pub letters : List Letter
   pub test : Test
 
--- 004's first and last position
-abbrev pub span : ℕ → ℕ → Field
-span from to = record { start = from; width = to + 1 - from }
-
-abbrev pub rule : ℕ → ℕ → ℕ → List Letter → Test → Rule
-rule field from to letters test = record { field = field; position = span from to; letters = letters; test = test }
+abbrev pub rule : ℕ → Field → List Letter → Test → Rule
+rule field position letters test = record { field = field; position = position; letters = letters; test = test }
 
 -- the letter of DA, by a name that contracts can use
 abbrev pub adjustment : Letter
@@ -85,116 +98,103 @@ check = C ∷ []
 -- 01 Header
 unfoldable pub header : List Rule
 header =
-    rule 6 3 16 noCheck Unrepeated
-    ∷ rule 6 3 16 check HeaderNumber
-    ∷ rule 7 17 22 noCheck NoBlank
-    ∷ rule 8 23 32 noCheck Dashed
-    ∷ rule 9 33 52 noCheck Digits
-    ∷ rule 10 53 56 noCheck (Listed voucherForms)
-    ∷ rule 12 60 68 (W ∷ []) Routing
-    ∷ rule 13 69 77 (N ∷ []) Routing
-    ∷ rule 14 78 85 noCheck (InBook Locations)
-    ∷ rule 15 86 89 check Digits
-    ∷ rule 16 90 90 check (Listed courtesyChecks)
-    ∷ rule 17 91 98 check Plain
-    ∷ rule 18 99 102 check Symbol
-    ∷ rule 19 103 110 check Digits
-    ∷ rule 20 111 114 check Month
+    rule 6 scheduleNumber noCheck Unrepeated
+    ∷ rule 6 scheduleNumber check HeaderNumber
+    ∷ rule 7 summaryNumber noCheck NoBlank
+    ∷ rule 8 summaryDate noCheck Dashed
+    ∷ rule 9 summaryTotalAmount noCheck Digits
+    ∷ rule 10 voucherFormCode noCheck (Listed voucherForms)
+    ∷ rule 12 originatingDi (W ∷ []) Routing
+    ∷ rule 13 originatingDfi (N ∷ []) Routing
+    ∷ rule 14 agencyLocationCode noCheck (InBook Locations)
+    ∷ rule 15 disbursingOfficeSymbol check Digits
+    ∷ rule 16 isCourtesyCheck check (Listed courtesyChecks)
+    ∷ rule 17 checkBatchCreationDate check Plain
+    ∷ rule 18 checkSymbolNumber check Symbol
+    ∷ rule 19 checkFirstSerialNumber check Digits
+    ∷ rule 20 checkAccountingMonthAndYear check Month
     ∷ []
 
 -- 01 Detail
 unfoldable pub detail : List Rule
 detail =
-    rule 23 3 22 noCheck Unrepeated
-    ∷ rule 23 3 22 check PaymentNumber
-    ∷ rule 24 23 42 noCheck AboveZero
-    ∷ rule 24 23 42 check CheckLimit
-    ∷ rule 25 43 43 check (Listed voidedChecks)
-    ∷ rule 26 44 90 anyLetter Required
-    ∷ rule 28 107 131 anyLetter (InBook Types)
-    ∷ rule 29 132 139 check (InBook Locations)
-    ∷ rule 35 350 351 anyLetter (IfInBook States)
-    ∷ rule 36 352 356 anyLetter IfPostal
-    ∷ rule 38 361 362 anyLetter (IfInBook Countries)
-    ∷ rule 42 426 434 (W ∷ []) Routing
-    ∷ rule 43 435 443 (N ∷ []) Routing
-    ∷ rule 44 444 446 (W ∷ []) (Listed businessFunctions)
-    ∷ rule 48 506 507 (N ∷ []) (IfCoded transactionCodes)
-    ∷ rule 51 526 545 (I ∷ []) (IfListed payerMechanisms)
-    ∷ rule 52 546 548 anyLetter (IfInBook Currencies)
-    ∷ rule 54 560 573 (A ∷ []) Required
-    ∷ rule 55 574 593 (A ∷ []) Required
-    ∷ rule 56 594 603 (A ∷ []) Dashed
-    ∷ rule 58 654 661 check Serial
-    ∷ rule 59 662 669 check Plain
-    ∷ rule 62 674 676 (N ∷ []) (Listed entryClasses)
+    rule 23 paymentId noCheck Unrepeated
+    ∷ rule 23 paymentId check PaymentNumber
+    ∷ rule 24 amount noCheck AboveZero
+    ∷ rule 24 amount check CheckLimit
+    ∷ rule 25 isVoidedCheck check (Listed voidedChecks)
+    ∷ rule 26 payeeName anyLetter Required
+    ∷ rule 28 paymentTypeCode anyLetter (InBook Types)
+    ∷ rule 29 paymentLocationCode check (InBook Locations)
+    ∷ rule 35 stateCode anyLetter (IfInBook States)
+    ∷ rule 36 postalCode anyLetter IfPostal
+    ∷ rule 38 countryCode anyLetter (IfInBook Countries)
+    ∷ rule 42 receivingDi (W ∷ []) Routing
+    ∷ rule 43 receivingDfi (N ∷ []) Routing
+    ∷ rule 44 businessFunctionCode (W ∷ []) (Listed businessFunctions)
+    ∷ rule 48 achTransactionCode (N ∷ []) (IfCoded transactionCodes)
+    ∷ rule 51 payerMechanism (I ∷ []) (IfListed payerMechanisms)
+    ∷ rule 52 originalCurrencyCode anyLetter (IfInBook Currencies)
+    ∷ rule 54 originalScheduleNumber (A ∷ []) Required
+    ∷ rule 55 originalPaymentId (A ∷ []) Required
+    ∷ rule 56 originalSummaryDate (A ∷ []) Dashed
+    ∷ rule 58 checkSerialNumber check Serial
+    ∷ rule 59 checkIssueDate check Plain
+    ∷ rule 62 standardEntryClassCode (N ∷ []) (Listed entryClasses)
     ∷ []
 
 -- 01 Others: DX, but not under DA
 unfoldable pub party : List Rule
-party = rule 66 23 172 (N ∷ C ∷ W ∷ I ∷ []) Required ∷ []
+party = rule 66 partyName (N ∷ C ∷ W ∷ I ∷ []) Required ∷ []
 
 -- 01 Others: DT
 unfoldable pub account : List Rule
 account =
-    rule 80 28 30 anyLetter IfReporter
-    ∷ rule 84 40 43 anyLetter IfReporter
-    ∷ rule 85 44 46 anyLetter IfReporter
-    ∷ rule 86 47 54 anyLetter ReporterBetc
-    ∷ rule 87 55 74 anyLetter Digits
+    rule 80 agencyIdentifier anyLetter IfReporter
+    ∷ rule 84 mainAccountCode anyLetter IfReporter
+    ∷ rule 85 subAccountCode anyLetter IfReporter
+    ∷ rule 86 businessEventTypeCode anyLetter ReporterBetc
+    ∷ rule 87 accountAmount anyLetter Digits
     ∷ []
 
 -- 01 Others: DP; a payment's only DP may leave it blank
 unfoldable pub procurement : List Rule
-procurement = rule 96 131 150 anyLetter Digits ∷ []
+procurement = rule 96 procurementAmount anyLetter Digits ∷ []
 
 unfoldable pub loneProcurement : List Rule
-loneProcurement = rule 96 131 150 anyLetter IfDigits ∷ []
+loneProcurement = rule 96 procurementAmount anyLetter IfDigits ∷ []
 
 -- 01 Others: BT
 unfoldable pub trailer : List Rule
-trailer = rule 99 3 10 anyLetter Count ∷ rule 100 11 30 anyLetter Sum ∷ []
-
--- fields that a test looks at beside its own: 18, 19, 25 and 58
-abbrev pub symbolField : Field
-symbolField = span 99 102
-
-abbrev pub firstSerialField : Field
-firstSerialField = span 103 110
-
-abbrev pub voidedField : Field
-voidedField = span 43 43
-
-abbrev pub serialField : Field
-serialField = span 654 661
+trailer = rule 99 batchTotalCount anyLetter Count ∷ rule 100 batchTotalAmount anyLetter Sum ∷ []
 
 -- the reason that a field's value draws, 0 where it is sound
-unfoldable pub reason : List ℕ → Book → Context → List ℕ → Test → List ℕ → ℕ
-reason bytes b c rec Required v = required v
-reason bytes b c rec Digits v = number v
-reason bytes b c rec NoBlank v = unbroken v
-reason bytes b c rec Dashed v = dashedDay v
-reason bytes b c rec Plain v = plainDay v
-reason bytes b c rec Month v = monthAndYear v
-reason bytes b c rec Routing v = routingNumber v
-reason bytes b c rec (Listed values) v = listed values v
-reason bytes b c rec (IfListed values) v = ifListed values v
-reason bytes b c rec (IfCoded values) v = ifCoded values v
-reason bytes b c rec IfPostal v = ifPostal v
-reason bytes b c rec IfDigits v = ifNumber v
-reason bytes b c rec (InBook k) v = inBook bytes b k v
-reason bytes b c rec (IfInBook k) v = ifInBook bytes b k v
-reason bytes b c rec IfReporter v = choose (c .reporter) (required v) 0
-reason bytes b c rec ReporterBetc v = choose (c .reporter) (inBook bytes b Betcs v) (ifInBook bytes b Betcs v)
-reason bytes b c rec AboveZero v = positive v
-reason bytes b c rec CheckLimit v = checkAmount (alike (held rec voidedField) (0xF1 ∷ [])) v
-reason bytes b c rec Symbol v = checkSymbol v
-reason bytes b c rec Unrepeated v = unrepeated (c .repeats) v
-reason bytes b c rec HeaderNumber v = composed (c .repeats) (held rec symbolField) (held rec firstSerialField) 2 v
-reason bytes b c rec PaymentNumber v = composed (c .repeats) (c .symbol) (held rec serialField) 8 v
-reason bytes b c rec Serial v = numberIs 7 (c .serial + c .payments) v
-reason bytes b c rec Count v = numberIs 13 (c .payments) v
-reason bytes b c rec Sum v = amountIs (worth (c .total)) v
+unfoldable pub reason : Context → List ℕ → Test → List ℕ → ℕ
+reason c rec Required v = required v
+reason c rec Digits v = number v
+reason c rec NoBlank v = unbroken v
+reason c rec Dashed v = dashedDay v
+reason c rec Plain v = plainDay v
+reason c rec Month v = monthAndYear v
+reason c rec Routing v = routingNumber v
+reason c rec (Listed values) v = listed values v
+reason c rec (IfListed values) v = ifListed values v
+reason c rec (IfCoded values) v = ifCoded values v
+reason c rec IfPostal v = ifPostal v
+reason c rec IfDigits v = ifNumber v
+reason c rec (InBook k) v = inBook (inKind (c .codes) k) v
+reason c rec (IfInBook k) v = ifInBook (inKind (c .codes) k) v
+reason c rec IfReporter v = choose (c .reporter) (required v) 0
+reason c rec ReporterBetc v = choose (c .reporter) (inBook (c .codes .betcs) v) (ifInBook (c .codes .betcs) v)
+reason c rec AboveZero v = positive v
+reason c rec CheckLimit v = checkAmount (alike (held rec isVoidedCheck) (0xF1 ∷ [])) v
+reason c rec Symbol v = checkSymbol v
+reason c rec Unrepeated v = unrepeated (c .repeats) v
+reason c rec HeaderNumber v = composed (c .repeats) (held rec checkSymbolNumber) (held rec checkFirstSerialNumber) 2 v
+reason c rec PaymentNumber v = composed (c .repeats) (c .symbol) (held rec checkSerialNumber) 8 v
+reason c rec Serial v = numberIs 7 (c .serial + c .payments) v
+reason c rec Count v = numberIs 13 (c .payments) v
+reason c rec Sum v = amountIs (worth (c .total)) v
 
 -- the letter is one of these
 unfoldable pub among : Letter → List Letter → Bool
@@ -211,6 +211,6 @@ abbrev pub rulesFor : Letter → List Rule → List Rule
 rulesFor l rs = rows 1 106 l rs
 
 -- what the rules find in a record with this number, in the order of the table
-unfoldable pub findings : List ℕ → Book → Context → ℕ → List ℕ → List Rule → List Finding
-findings bytes b c n rec [] = []
-findings bytes b c n rec (r ∷ rs) = found (reason bytes b c rec (r .test) (held rec (r .position))) n (r .field) ∷ findings bytes b c n rec rs
+unfoldable pub findings : Context → ℕ → List ℕ → List Rule → List Finding
+findings c n rec [] = []
+findings c n rec (r ∷ rs) = found (reason c rec (r .test) (held rec (r .position))) n (r .field) ∷ findings c n rec rs

@@ -1,12 +1,10 @@
 // The rules of a detail (01 Detail).
 use crate::Context;
-use book::Book;
 use reasons::Finding;
 use reasons::amounts;
 use reasons::checks;
 use reasons::lists;
 use reasons::lookups;
-use reasons::lookups::Shelf;
 use reasons::values;
 use record::Line;
 use record::codes::Letter;
@@ -15,21 +13,13 @@ ghost use mathlib.Core.Path.{_≡_};
 ghost use lib.ListN.{length};
 ghost use Rattle.record.specs.declared.codes.Letter.the-variants.{N, C, W, I};
 ghost use Rattle.record.specs.Value.{seen};
-ghost use Rattle.book.specs.Book.{Usable};
 ghost use Rattle.reasons.specs.Findings.{after};
 ghost use Rattle.rules.specs.Rules.{adjustment, detail, rows, rulesFor, findings, Kept};
 
 // Fields 23 and 24 of a detail other than DC.
-fn start(
-    known: Finding,
-    book: &[u8],
-    shelves: Book,
-    rec: &[u8],
-    line: Line,
-    context: Context,
-) -> Finding
-    requires { ⌜ Usable (now book) shelves × (length (now rec) ≡ 850) × Kept context ⌝ }
-    ensures { λ r. ⌜ r ≡ after known (findings (now (book .entry)) shelves context (line .number) (seen line (now (rec .entry))) (rows 23 24 N detail)) ⌝ }
+fn start(known: Finding, rec: &[u8], line: Line, context: Context) -> Finding
+    requires { ⌜ (length (now rec) ≡ 850) × Kept context ⌝ }
+    ensures { λ r. ⌜ r ≡ after known (findings context (line .number) (seen line (now (rec .entry))) (rows 23 24 N detail)) ⌝ }
 {
     let reason_23 = checks::unrepeated(rec, line, PAYMENT_ID, context.repeats);
     let after_23 = reasons::note(known, reason_23, line, 23);
@@ -38,16 +28,9 @@ fn start(
 }
 
 // Fields 23 to 25 of DC.
-fn start_c(
-    known: Finding,
-    book: &[u8],
-    shelves: Book,
-    rec: &[u8],
-    line: Line,
-    context: Context,
-) -> Finding
-    requires { ⌜ Usable (now book) shelves × (length (now rec) ≡ 850) × Kept context ⌝ }
-    ensures { λ r. ⌜ r ≡ after known (findings (now (book .entry)) shelves context (line .number) (seen line (now (rec .entry))) (rows 23 25 C detail)) ⌝ }
+fn start_c(known: Finding, rec: &[u8], line: Line, context: Context) -> Finding
+    requires { ⌜ (length (now rec) ≡ 850) × Kept context ⌝ }
+    ensures { λ r. ⌜ r ≡ after known (findings context (line .number) (seen line (now (rec .entry))) (rows 23 25 C detail)) ⌝ }
 {
     let symbol = context.symbol;
     let voided = record::field_is(rec, line, IS_VOIDED_CHECK, b"\xF1");
@@ -67,144 +50,80 @@ fn start_c(
 }
 
 // Fields 26 and 28.
-fn payee(
-    known: Finding,
-    book: &[u8],
-    shelves: Book,
-    rec: &[u8],
-    line: Line,
-    context: Context,
-) -> Finding
-    requires { ⌜ Usable (now book) shelves × (length (now rec) ≡ 850) × Kept context ⌝ }
-    ensures { λ r. ⌜ r ≡ after known (findings (now (book .entry)) shelves context (line .number) (seen line (now (rec .entry))) (rows 26 28 N detail)) ⌝ }
+fn payee(known: Finding, rec: &[u8], line: Line, context: Context) -> Finding
+    requires { ⌜ (length (now rec) ≡ 850) × Kept context ⌝ }
+    ensures { λ r. ⌜ r ≡ after known (findings context (line .number) (seen line (now (rec .entry))) (rows 26 28 N detail)) ⌝ }
 {
+    let codes = context.codes;
     let reason_26 = values::required(rec, line, PAYEE_NAME);
     let after_26 = reasons::note(known, reason_26, line, 26);
-    let reason_28 = lookups::in_book(book, shelves, Shelf::Types, rec, line, PAYMENT_TYPE_CODE);
+    let reason_28 = lookups::in_book(rec, line, PAYMENT_TYPE_CODE, codes.types);
     reasons::note(after_26, reason_28, line, 28)
 }
 
 // Fields 35 to 38.
-fn address(
-    known: Finding,
-    book: &[u8],
-    shelves: Book,
-    rec: &[u8],
-    line: Line,
-    context: Context,
-) -> Finding
-    requires { ⌜ Usable (now book) shelves × (length (now rec) ≡ 850) × Kept context ⌝ }
-    ensures { λ r. ⌜ r ≡ after known (findings (now (book .entry)) shelves context (line .number) (seen line (now (rec .entry))) (rows 35 38 N detail)) ⌝ }
+fn address(known: Finding, rec: &[u8], line: Line, context: Context) -> Finding
+    requires { ⌜ (length (now rec) ≡ 850) × Kept context ⌝ }
+    ensures { λ r. ⌜ r ≡ after known (findings context (line .number) (seen line (now (rec .entry))) (rows 35 38 N detail)) ⌝ }
 {
-    let reason_35 = lookups::if_in_book(book, shelves, Shelf::States, rec, line, STATE_CODE);
+    let codes = context.codes;
+    let reason_35 = lookups::if_in_book(rec, line, STATE_CODE, codes.states);
     let after_35 = reasons::note(known, reason_35, line, 35);
     let reason_36 = values::if_postal(rec, line, POSTAL_CODE);
     let after_36 = reasons::note(after_35, reason_36, line, 36);
-    let reason_38 = lookups::if_in_book(book, shelves, Shelf::Countries, rec, line, COUNTRY_CODE);
+    let reason_38 = lookups::if_in_book(rec, line, COUNTRY_CODE, codes.countries);
     reasons::note(after_36, reason_38, line, 38)
 }
 
 // Fields 43 to 62 of DN.
-fn end_n(
-    known: Finding,
-    book: &[u8],
-    shelves: Book,
-    rec: &[u8],
-    line: Line,
-    context: Context,
-) -> Finding
-    requires { ⌜ Usable (now book) shelves × (length (now rec) ≡ 850) × Kept context ⌝ }
-    ensures { λ r. ⌜ r ≡ after known (findings (now (book .entry)) shelves context (line .number) (seen line (now (rec .entry))) (rows 42 62 N detail)) ⌝ }
+fn end_n(known: Finding, rec: &[u8], line: Line, context: Context) -> Finding
+    requires { ⌜ (length (now rec) ≡ 850) × Kept context ⌝ }
+    ensures { λ r. ⌜ r ≡ after known (findings context (line .number) (seen line (now (rec .entry))) (rows 42 62 N detail)) ⌝ }
 {
+    let codes = context.codes;
     let reason_43 = values::routing_number(rec, line, RECEIVING_DFI);
     let after_43 = reasons::note(known, reason_43, line, 43);
     let reason_48 = lists::transaction_code(rec, line, ACH_TRANSACTION_CODE);
     let after_48 = reasons::note(after_43, reason_48, line, 48);
-    let reason_52 = lookups::if_in_book(
-        book,
-        shelves,
-        Shelf::Currencies,
-        rec,
-        line,
-        ORIGINAL_CURRENCY_CODE,
-    );
+    let reason_52 = lookups::if_in_book(rec, line, ORIGINAL_CURRENCY_CODE, codes.currencies);
     let after_52 = reasons::note(after_48, reason_52, line, 52);
     let reason_62 = lists::entry_class(rec, line, STANDARD_ENTRY_CLASS_CODE);
     reasons::note(after_52, reason_62, line, 62)
 }
 
 // Fields 42 to 52 of DW.
-fn end_w(
-    known: Finding,
-    book: &[u8],
-    shelves: Book,
-    rec: &[u8],
-    line: Line,
-    context: Context,
-) -> Finding
-    requires { ⌜ Usable (now book) shelves × (length (now rec) ≡ 850) × Kept context ⌝ }
-    ensures { λ r. ⌜ r ≡ after known (findings (now (book .entry)) shelves context (line .number) (seen line (now (rec .entry))) (rows 42 62 W detail)) ⌝ }
+fn end_w(known: Finding, rec: &[u8], line: Line, context: Context) -> Finding
+    requires { ⌜ (length (now rec) ≡ 850) × Kept context ⌝ }
+    ensures { λ r. ⌜ r ≡ after known (findings context (line .number) (seen line (now (rec .entry))) (rows 42 62 W detail)) ⌝ }
 {
+    let codes = context.codes;
     let reason_42 = values::routing_number(rec, line, RECEIVING_DI);
     let after_42 = reasons::note(known, reason_42, line, 42);
     let reason_44 = lists::business_function(rec, line, BUSINESS_FUNCTION_CODE);
     let after_44 = reasons::note(after_42, reason_44, line, 44);
-    let reason_52 = lookups::if_in_book(
-        book,
-        shelves,
-        Shelf::Currencies,
-        rec,
-        line,
-        ORIGINAL_CURRENCY_CODE,
-    );
+    let reason_52 = lookups::if_in_book(rec, line, ORIGINAL_CURRENCY_CODE, codes.currencies);
     reasons::note(after_44, reason_52, line, 52)
 }
 
 // Fields 51 and 52 of DI.
-fn end_i(
-    known: Finding,
-    book: &[u8],
-    shelves: Book,
-    rec: &[u8],
-    line: Line,
-    context: Context,
-) -> Finding
-    requires { ⌜ Usable (now book) shelves × (length (now rec) ≡ 850) × Kept context ⌝ }
-    ensures { λ r. ⌜ r ≡ after known (findings (now (book .entry)) shelves context (line .number) (seen line (now (rec .entry))) (rows 42 62 I detail)) ⌝ }
+fn end_i(known: Finding, rec: &[u8], line: Line, context: Context) -> Finding
+    requires { ⌜ (length (now rec) ≡ 850) × Kept context ⌝ }
+    ensures { λ r. ⌜ r ≡ after known (findings context (line .number) (seen line (now (rec .entry))) (rows 42 62 I detail)) ⌝ }
 {
+    let codes = context.codes;
     let reason_51 = lists::payer_mechanism(rec, line, PAYER_MECHANISM);
     let after_51 = reasons::note(known, reason_51, line, 51);
-    let reason_52 = lookups::if_in_book(
-        book,
-        shelves,
-        Shelf::Currencies,
-        rec,
-        line,
-        ORIGINAL_CURRENCY_CODE,
-    );
+    let reason_52 = lookups::if_in_book(rec, line, ORIGINAL_CURRENCY_CODE, codes.currencies);
     reasons::note(after_51, reason_52, line, 52)
 }
 
 // Fields 52 to 56 of DA.
-fn end_a(
-    known: Finding,
-    book: &[u8],
-    shelves: Book,
-    rec: &[u8],
-    line: Line,
-    context: Context,
-) -> Finding
-    requires { ⌜ Usable (now book) shelves × (length (now rec) ≡ 850) × Kept context ⌝ }
-    ensures { λ r. ⌜ r ≡ after known (findings (now (book .entry)) shelves context (line .number) (seen line (now (rec .entry))) (rows 42 62 adjustment detail)) ⌝ }
+fn end_a(known: Finding, rec: &[u8], line: Line, context: Context) -> Finding
+    requires { ⌜ (length (now rec) ≡ 850) × Kept context ⌝ }
+    ensures { λ r. ⌜ r ≡ after known (findings context (line .number) (seen line (now (rec .entry))) (rows 42 62 adjustment detail)) ⌝ }
 {
-    let reason_52 = lookups::if_in_book(
-        book,
-        shelves,
-        Shelf::Currencies,
-        rec,
-        line,
-        ORIGINAL_CURRENCY_CODE,
-    );
+    let codes = context.codes;
+    let reason_52 = lookups::if_in_book(rec, line, ORIGINAL_CURRENCY_CODE, codes.currencies);
     let after_52 = reasons::note(known, reason_52, line, 52);
     let reason_54 = values::required(rec, line, ORIGINAL_SCHEDULE_NUMBER);
     let after_54 = reasons::note(after_52, reason_54, line, 54);
@@ -215,53 +134,27 @@ fn end_a(
 }
 
 // Fields 26 to 29 of DC.
-fn payee_c(
-    known: Finding,
-    book: &[u8],
-    shelves: Book,
-    rec: &[u8],
-    line: Line,
-    context: Context,
-) -> Finding
-    requires { ⌜ Usable (now book) shelves × (length (now rec) ≡ 850) × Kept context ⌝ }
-    ensures { λ r. ⌜ r ≡ after known (findings (now (book .entry)) shelves context (line .number) (seen line (now (rec .entry))) (rows 26 29 C detail)) ⌝ }
+fn payee_c(known: Finding, rec: &[u8], line: Line, context: Context) -> Finding
+    requires { ⌜ (length (now rec) ≡ 850) × Kept context ⌝ }
+    ensures { λ r. ⌜ r ≡ after known (findings context (line .number) (seen line (now (rec .entry))) (rows 26 29 C detail)) ⌝ }
 {
+    let codes = context.codes;
     let reason_26 = values::required(rec, line, PAYEE_NAME);
     let after_26 = reasons::note(known, reason_26, line, 26);
-    let reason_28 = lookups::in_book(book, shelves, Shelf::Types, rec, line, PAYMENT_TYPE_CODE);
+    let reason_28 = lookups::in_book(rec, line, PAYMENT_TYPE_CODE, codes.types);
     let after_28 = reasons::note(after_26, reason_28, line, 28);
-    let reason_29 = lookups::in_book(
-        book,
-        shelves,
-        Shelf::Locations,
-        rec,
-        line,
-        PAYMENT_LOCATION_CODE,
-    );
+    let reason_29 = lookups::in_book(rec, line, PAYMENT_LOCATION_CODE, codes.locations);
     reasons::note(after_28, reason_29, line, 29)
 }
 
 // Fields 52 to 59 of DC.
-fn end_c(
-    known: Finding,
-    book: &[u8],
-    shelves: Book,
-    rec: &[u8],
-    line: Line,
-    context: Context,
-) -> Finding
-    requires { ⌜ Usable (now book) shelves × (length (now rec) ≡ 850) × Kept context ⌝ }
-    ensures { λ r. ⌜ r ≡ after known (findings (now (book .entry)) shelves context (line .number) (seen line (now (rec .entry))) (rows 42 62 C detail)) ⌝ }
+fn end_c(known: Finding, rec: &[u8], line: Line, context: Context) -> Finding
+    requires { ⌜ (length (now rec) ≡ 850) × Kept context ⌝ }
+    ensures { λ r. ⌜ r ≡ after known (findings context (line .number) (seen line (now (rec .entry))) (rows 42 62 C detail)) ⌝ }
 {
+    let codes = context.codes;
     let wanted = context.serial + context.payments;
-    let reason_52 = lookups::if_in_book(
-        book,
-        shelves,
-        Shelf::Currencies,
-        rec,
-        line,
-        ORIGINAL_CURRENCY_CODE,
-    );
+    let reason_52 = lookups::if_in_book(rec, line, ORIGINAL_CURRENCY_CODE, codes.currencies);
     let after_52 = reasons::note(known, reason_52, line, 52);
     let reason_58 = checks::number_is(rec, line, CHECK_SERIAL_NUMBER, wanted, 7);
     let after_58 = reasons::note(after_52, reason_58, line, 58);
@@ -270,75 +163,59 @@ fn end_c(
 }
 
 // Fields 26 to 38 of a detail other than DC.
-fn common(
-    known: Finding,
-    book: &[u8],
-    shelves: Book,
-    rec: &[u8],
-    line: Line,
-    context: Context,
-) -> Finding
-    requires { ⌜ Usable (now book) shelves × (length (now rec) ≡ 850) × Kept context ⌝ }
-    ensures { λ r. ⌜ r ≡ after known (findings (now (book .entry)) shelves context (line .number) (seen line (now (rec .entry))) (rows 26 38 N detail)) ⌝ }
+fn common(known: Finding, rec: &[u8], line: Line, context: Context) -> Finding
+    requires { ⌜ (length (now rec) ≡ 850) × Kept context ⌝ }
+    ensures { λ r. ⌜ r ≡ after known (findings context (line .number) (seen line (now (rec .entry))) (rows 26 38 N detail)) ⌝ }
 {
-    let begun = payee(known, book, shelves, rec, line, context);
-    address(begun, book, shelves, rec, line, context)
+    let begun = payee(known, rec, line, context);
+    address(begun, rec, line, context)
 }
 
 // Fields 26 to 38 of DC.
-fn common_c(
-    known: Finding,
-    book: &[u8],
-    shelves: Book,
-    rec: &[u8],
-    line: Line,
-    context: Context,
-) -> Finding
-    requires { ⌜ Usable (now book) shelves × (length (now rec) ≡ 850) × Kept context ⌝ }
-    ensures { λ r. ⌜ r ≡ after known (findings (now (book .entry)) shelves context (line .number) (seen line (now (rec .entry))) (rows 26 38 C detail)) ⌝ }
+fn common_c(known: Finding, rec: &[u8], line: Line, context: Context) -> Finding
+    requires { ⌜ (length (now rec) ≡ 850) × Kept context ⌝ }
+    ensures { λ r. ⌜ r ≡ after known (findings context (line .number) (seen line (now (rec .entry))) (rows 26 38 C detail)) ⌝ }
 {
-    let begun = payee_c(known, book, shelves, rec, line, context);
-    address(begun, book, shelves, rec, line, context)
+    let begun = payee_c(known, rec, line, context);
+    address(begun, rec, line, context)
 }
 
 // The rules of a detail.
 pub fn detail_rules(
     known: Finding,
-    book: &[u8],
-    shelves: Book,
     rec: &[u8],
     line: Line,
     letter: Letter,
     context: Context,
 ) -> Finding
-    requires { ⌜ Usable (now book) shelves × (length (now rec) ≡ 850) × Kept context ⌝ }
-    ensures { λ r. ⌜ r ≡ after known (findings (now (book .entry)) shelves context (line .number) (seen line (now (rec .entry))) (rulesFor letter detail)) ⌝ }
+    requires { ⌜ (length (now rec) ≡ 850) × Kept context ⌝ }
+    ensures { λ r. ⌜ r ≡ after known (findings context (line .number) (seen line (now (rec .entry))) (rulesFor letter detail)) ⌝ }
 {
     match letter {
         Letter::N => {
-            let begun = start(known, book, shelves, rec, line, context);
-            let then = common(begun, book, shelves, rec, line, context);
-            end_n(then, book, shelves, rec, line, context)
+            let begun = start(known, rec, line, context);
+            let then = common(begun, rec, line, context);
+            end_n(then, rec, line, context)
         }
         Letter::C => {
-            let begun = start_c(known, book, shelves, rec, line, context);
-            let then = common_c(begun, book, shelves, rec, line, context);
-            end_c(then, book, shelves, rec, line, context)
+            let begun = start_c(known, rec, line, context);
+            let then = common_c(begun, rec, line, context);
+            end_c(then, rec, line, context)
         }
         Letter::W => {
-            let begun = start(known, book, shelves, rec, line, context);
-            let then = common(begun, book, shelves, rec, line, context);
-            end_w(then, book, shelves, rec, line, context)
+            let begun = start(known, rec, line, context);
+            let then = common(begun, rec, line, context);
+            end_w(then, rec, line, context)
         }
         Letter::I => {
-            let begun = start(known, book, shelves, rec, line, context);
-            let then = common(begun, book, shelves, rec, line, context);
-            end_i(then, book, shelves, rec, line, context)
+            let begun = start(known, rec, line, context);
+            let then = common(begun, rec, line, context);
+            end_i(then, rec, line, context)
         }
         Letter::A => {
-            let begun = start(known, book, shelves, rec, line, context);
-            let then = common(begun, book, shelves, rec, line, context);
-            end_a(then, book, shelves, rec, line, context)
+            let begun = start(known, rec, line, context);
+            let then = common(begun, rec, line, context);
+            end_a(then, rec, line, context)
         }
     }
 }

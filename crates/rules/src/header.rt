@@ -1,11 +1,9 @@
 // The rules of a batch header (01 Header).
 use crate::Context;
-use book::Book;
 use reasons::Finding;
 use reasons::checks;
 use reasons::lists;
 use reasons::lookups;
-use reasons::lookups::Shelf;
 use reasons::values;
 use record::Line;
 use record::codes::Letter;
@@ -14,21 +12,13 @@ ghost use mathlib.Core.Path.{_≡_};
 ghost use lib.ListN.{length};
 ghost use Rattle.record.specs.declared.codes.Letter.the-variants.{N, C, W, I};
 ghost use Rattle.record.specs.Value.{seen};
-ghost use Rattle.book.specs.Book.{Usable};
 ghost use Rattle.reasons.specs.Findings.{after};
 ghost use Rattle.rules.specs.Rules.{header, rows, rulesFor, findings, Kept};
 
 // Fields 6 to 9 of a batch other than BC.
-fn start(
-    known: Finding,
-    book: &[u8],
-    shelves: Book,
-    rec: &[u8],
-    line: Line,
-    context: Context,
-) -> Finding
-    requires { ⌜ Usable (now book) shelves × (length (now rec) ≡ 850) × Kept context ⌝ }
-    ensures { λ r. ⌜ r ≡ after known (findings (now (book .entry)) shelves context (line .number) (seen line (now (rec .entry))) (rows 6 9 N header)) ⌝ }
+fn start(known: Finding, rec: &[u8], line: Line, context: Context) -> Finding
+    requires { ⌜ (length (now rec) ≡ 850) × Kept context ⌝ }
+    ensures { λ r. ⌜ r ≡ after known (findings context (line .number) (seen line (now (rec .entry))) (rows 6 9 N header)) ⌝ }
 {
     let reason_6 = checks::unrepeated(rec, line, SCHEDULE_NUMBER, context.repeats);
     let after_6 = reasons::note(known, reason_6, line, 6);
@@ -41,95 +31,49 @@ fn start(
 }
 
 // Fields 10 to 14 of BN.
-fn end_n(
-    known: Finding,
-    book: &[u8],
-    shelves: Book,
-    rec: &[u8],
-    line: Line,
-    context: Context,
-) -> Finding
-    requires { ⌜ Usable (now book) shelves × (length (now rec) ≡ 850) × Kept context ⌝ }
-    ensures { λ r. ⌜ r ≡ after known (findings (now (book .entry)) shelves context (line .number) (seen line (now (rec .entry))) (rows 10 14 N header)) ⌝ }
+fn end_n(known: Finding, rec: &[u8], line: Line, context: Context) -> Finding
+    requires { ⌜ (length (now rec) ≡ 850) × Kept context ⌝ }
+    ensures { λ r. ⌜ r ≡ after known (findings context (line .number) (seen line (now (rec .entry))) (rows 10 14 N header)) ⌝ }
 {
+    let codes = context.codes;
     let reason_10 = lists::voucher_form(rec, line, VOUCHER_FORM_CODE);
     let after_10 = reasons::note(known, reason_10, line, 10);
     let reason_13 = values::routing_number(rec, line, ORIGINATING_DFI);
     let after_13 = reasons::note(after_10, reason_13, line, 13);
-    let reason_14 = lookups::in_book(
-        book,
-        shelves,
-        Shelf::Locations,
-        rec,
-        line,
-        AGENCY_LOCATION_CODE,
-    );
+    let reason_14 = lookups::in_book(rec, line, AGENCY_LOCATION_CODE, codes.locations);
     reasons::note(after_13, reason_14, line, 14)
 }
 
 // Fields 10 to 14 of BW.
-fn end_w(
-    known: Finding,
-    book: &[u8],
-    shelves: Book,
-    rec: &[u8],
-    line: Line,
-    context: Context,
-) -> Finding
-    requires { ⌜ Usable (now book) shelves × (length (now rec) ≡ 850) × Kept context ⌝ }
-    ensures { λ r. ⌜ r ≡ after known (findings (now (book .entry)) shelves context (line .number) (seen line (now (rec .entry))) (rows 10 14 W header)) ⌝ }
+fn end_w(known: Finding, rec: &[u8], line: Line, context: Context) -> Finding
+    requires { ⌜ (length (now rec) ≡ 850) × Kept context ⌝ }
+    ensures { λ r. ⌜ r ≡ after known (findings context (line .number) (seen line (now (rec .entry))) (rows 10 14 W header)) ⌝ }
 {
+    let codes = context.codes;
     let reason_10 = lists::voucher_form(rec, line, VOUCHER_FORM_CODE);
     let after_10 = reasons::note(known, reason_10, line, 10);
     let reason_12 = values::routing_number(rec, line, ORIGINATING_DI);
     let after_12 = reasons::note(after_10, reason_12, line, 12);
-    let reason_14 = lookups::in_book(
-        book,
-        shelves,
-        Shelf::Locations,
-        rec,
-        line,
-        AGENCY_LOCATION_CODE,
-    );
+    let reason_14 = lookups::in_book(rec, line, AGENCY_LOCATION_CODE, codes.locations);
     reasons::note(after_12, reason_14, line, 14)
 }
 
 // Fields 10 to 14 of BI and BA.
-fn end_other(
-    known: Finding,
-    book: &[u8],
-    shelves: Book,
-    rec: &[u8],
-    line: Line,
-    context: Context,
-) -> Finding
-    requires { ⌜ Usable (now book) shelves × (length (now rec) ≡ 850) × Kept context ⌝ }
-    ensures { λ r. ⌜ r ≡ after known (findings (now (book .entry)) shelves context (line .number) (seen line (now (rec .entry))) (rows 10 14 I header)) ⌝ }
+fn end_other(known: Finding, rec: &[u8], line: Line, context: Context) -> Finding
+    requires { ⌜ (length (now rec) ≡ 850) × Kept context ⌝ }
+    ensures { λ r. ⌜ r ≡ after known (findings context (line .number) (seen line (now (rec .entry))) (rows 10 14 I header)) ⌝ }
 {
+    let codes = context.codes;
     let reason_10 = lists::voucher_form(rec, line, VOUCHER_FORM_CODE);
     let after_10 = reasons::note(known, reason_10, line, 10);
-    let reason_14 = lookups::in_book(
-        book,
-        shelves,
-        Shelf::Locations,
-        rec,
-        line,
-        AGENCY_LOCATION_CODE,
-    );
+    let reason_14 = lookups::in_book(rec, line, AGENCY_LOCATION_CODE, codes.locations);
     reasons::note(after_10, reason_14, line, 14)
 }
 
 // Fields 6 to 17 of BC.
-fn start_c(
-    known: Finding,
-    book: &[u8],
-    shelves: Book,
-    rec: &[u8],
-    line: Line,
-    context: Context,
-) -> Finding
-    requires { ⌜ Usable (now book) shelves × (length (now rec) ≡ 850) × Kept context ⌝ }
-    ensures { λ r. ⌜ r ≡ after known (findings (now (book .entry)) shelves context (line .number) (seen line (now (rec .entry))) (rows 6 17 C header)) ⌝ }
+fn start_c(known: Finding, rec: &[u8], line: Line, context: Context) -> Finding
+    requires { ⌜ (length (now rec) ≡ 850) × Kept context ⌝ }
+    ensures { λ r. ⌜ r ≡ after known (findings context (line .number) (seen line (now (rec .entry))) (rows 6 17 C header)) ⌝ }
 {
     let symbol = crate::symbol_of(rec, line);
     let reason_6 = checks::composed(
@@ -150,16 +94,9 @@ fn start_c(
 }
 
 // Fields 18 to 20 of BC.
-fn end_c(
-    known: Finding,
-    book: &[u8],
-    shelves: Book,
-    rec: &[u8],
-    line: Line,
-    context: Context,
-) -> Finding
-    requires { ⌜ Usable (now book) shelves × (length (now rec) ≡ 850) × Kept context ⌝ }
-    ensures { λ r. ⌜ r ≡ after known (findings (now (book .entry)) shelves context (line .number) (seen line (now (rec .entry))) (rows 18 20 C header)) ⌝ }
+fn end_c(known: Finding, rec: &[u8], line: Line, context: Context) -> Finding
+    requires { ⌜ (length (now rec) ≡ 850) × Kept context ⌝ }
+    ensures { λ r. ⌜ r ≡ after known (findings context (line .number) (seen line (now (rec .entry))) (rows 18 20 C header)) ⌝ }
 {
     let reason_18 = checks::check_symbol(rec, line, CHECK_SYMBOL_NUMBER);
     let after_18 = reasons::note(known, reason_18, line, 18);
@@ -172,36 +109,34 @@ fn end_c(
 // The rules of a batch header.
 pub fn header_rules(
     known: Finding,
-    book: &[u8],
-    shelves: Book,
     rec: &[u8],
     line: Line,
     letter: Letter,
     context: Context,
 ) -> Finding
-    requires { ⌜ Usable (now book) shelves × (length (now rec) ≡ 850) × Kept context ⌝ }
-    ensures { λ r. ⌜ r ≡ after known (findings (now (book .entry)) shelves context (line .number) (seen line (now (rec .entry))) (rulesFor letter header)) ⌝ }
+    requires { ⌜ (length (now rec) ≡ 850) × Kept context ⌝ }
+    ensures { λ r. ⌜ r ≡ after known (findings context (line .number) (seen line (now (rec .entry))) (rulesFor letter header)) ⌝ }
 {
     match letter {
         Letter::N => {
-            let begun = start(known, book, shelves, rec, line, context);
-            end_n(begun, book, shelves, rec, line, context)
+            let begun = start(known, rec, line, context);
+            end_n(begun, rec, line, context)
         }
         Letter::C => {
-            let begun = start_c(known, book, shelves, rec, line, context);
-            end_c(begun, book, shelves, rec, line, context)
+            let begun = start_c(known, rec, line, context);
+            end_c(begun, rec, line, context)
         }
         Letter::W => {
-            let begun = start(known, book, shelves, rec, line, context);
-            end_w(begun, book, shelves, rec, line, context)
+            let begun = start(known, rec, line, context);
+            end_w(begun, rec, line, context)
         }
         Letter::I => {
-            let begun = start(known, book, shelves, rec, line, context);
-            end_other(begun, book, shelves, rec, line, context)
+            let begun = start(known, rec, line, context);
+            end_other(begun, rec, line, context)
         }
         Letter::A => {
-            let begun = start(known, book, shelves, rec, line, context);
-            end_other(begun, book, shelves, rec, line, context)
+            let begun = start(known, rec, line, context);
+            end_other(begun, rec, line, context)
         }
     }
 }

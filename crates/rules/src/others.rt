@@ -1,11 +1,9 @@
 // The rules of the records beside headers and details (01 Others).
 use crate::Context;
-use book::Book;
 use reasons::Finding;
 use reasons::amounts;
 use reasons::checks;
 use reasons::lookups;
-use reasons::lookups::Shelf;
 use reasons::values;
 use record::Field;
 use record::Line;
@@ -16,23 +14,14 @@ ghost use lib.ListN.{length};
 ghost use Rattle.record.specs.Choice.{choose};
 ghost use Rattle.record.specs.declared.codes.Letter.the-variants.{N};
 ghost use Rattle.record.specs.Value.{Has, seen, held};
-ghost use Rattle.book.specs.Book.{Usable};
 ghost use Rattle.reasons.specs.Findings.{after};
-ghost use Rattle.reasons.specs.declared.lookups.Shelf.the-variants.{Betcs};
 ghost use Rattle.reasons.specs.Reasons.{required, inBook, ifInBook};
 ghost use Rattle.rules.specs.Rules.{party, account, procurement, loneProcurement, trailer, rows, rulesFor, findings, Kept};
 
 // The party's name (field 66).
-fn party_name(
-    known: Finding,
-    book: &[u8],
-    shelves: Book,
-    rec: &[u8],
-    line: Line,
-    context: Context,
-) -> Finding
-    requires { ⌜ Usable (now book) shelves × (length (now rec) ≡ 850) × Kept context ⌝ }
-    ensures { λ r. ⌜ r ≡ after known (findings (now (book .entry)) shelves context (line .number) (seen line (now (rec .entry))) (rulesFor N party)) ⌝ }
+fn party_name(known: Finding, rec: &[u8], line: Line, context: Context) -> Finding
+    requires { ⌜ (length (now rec) ≡ 850) × Kept context ⌝ }
+    ensures { λ r. ⌜ r ≡ after known (findings context (line .number) (seen line (now (rec .entry))) (rulesFor N party)) ⌝ }
 {
     let reason_66 = values::required(rec, line, PARTY_NAME);
     reasons::note(known, reason_66, line, 66)
@@ -41,21 +30,19 @@ fn party_name(
 // A DX: the party's name, but not under DA.
 pub fn party_rules(
     known: Finding,
-    book: &[u8],
-    shelves: Book,
     rec: &[u8],
     line: Line,
     letter: Letter,
     context: Context,
 ) -> Finding
-    requires { ⌜ Usable (now book) shelves × (length (now rec) ≡ 850) × Kept context ⌝ }
-    ensures { λ r. ⌜ r ≡ after known (findings (now (book .entry)) shelves context (line .number) (seen line (now (rec .entry))) (rulesFor letter party)) ⌝ }
+    requires { ⌜ (length (now rec) ≡ 850) × Kept context ⌝ }
+    ensures { λ r. ⌜ r ≡ after known (findings context (line .number) (seen line (now (rec .entry))) (rulesFor letter party)) ⌝ }
 {
     match letter {
-        Letter::N => party_name(known, book, shelves, rec, line, context),
-        Letter::C => party_name(known, book, shelves, rec, line, context),
-        Letter::W => party_name(known, book, shelves, rec, line, context),
-        Letter::I => party_name(known, book, shelves, rec, line, context),
+        Letter::N => party_name(known, rec, line, context),
+        Letter::C => party_name(known, rec, line, context),
+        Letter::W => party_name(known, rec, line, context),
+        Letter::I => party_name(known, rec, line, context),
         Letter::A => known,
     }
 }
@@ -72,34 +59,20 @@ fn if_reporter(rec: &[u8], line: Line, field: Field, reporter: bool) -> usize
 }
 
 // A BETC: required of a CARS Reporter, and in the book if filled.
-fn reporter_betc(
-    book: &[u8],
-    shelves: Book,
-    rec: &[u8],
-    line: Line,
-    field: Field,
-    reporter: bool,
-) -> usize
-    requires { ⌜ Usable (now book) shelves × Has (now rec) field ⌝ }
-    ensures { λ r. ⌜ r ≡ choose reporter (inBook (now (book .entry)) shelves Betcs (held (seen line (now (rec .entry))) field)) (ifInBook (now (book .entry)) shelves Betcs (held (seen line (now (rec .entry))) field)) ⌝ }
+fn reporter_betc(rec: &[u8], line: Line, field: Field, reporter: bool, listed: bool) -> usize
+    requires { ⌜ Has (now rec) field ⌝ }
+    ensures { λ r. ⌜ r ≡ choose reporter (inBook listed (held (seen line (now (rec .entry))) field)) (ifInBook listed (held (seen line (now (rec .entry))) field)) ⌝ }
 {
     if reporter {
-        return lookups::in_book(book, shelves, Shelf::Betcs, rec, line, field);
+        return lookups::in_book(rec, line, field, listed);
     }
-    lookups::if_in_book(book, shelves, Shelf::Betcs, rec, line, field)
+    lookups::if_in_book(rec, line, field, listed)
 }
 
 // Fields 80 to 85.
-fn account_start(
-    known: Finding,
-    book: &[u8],
-    shelves: Book,
-    rec: &[u8],
-    line: Line,
-    context: Context,
-) -> Finding
-    requires { ⌜ Usable (now book) shelves × (length (now rec) ≡ 850) × Kept context ⌝ }
-    ensures { λ r. ⌜ r ≡ after known (findings (now (book .entry)) shelves context (line .number) (seen line (now (rec .entry))) (rows 80 85 N account)) ⌝ }
+fn account_start(known: Finding, rec: &[u8], line: Line, context: Context) -> Finding
+    requires { ⌜ (length (now rec) ≡ 850) × Kept context ⌝ }
+    ensures { λ r. ⌜ r ≡ after known (findings context (line .number) (seen line (now (rec .entry))) (rows 80 85 N account)) ⌝ }
 {
     let reason_80 = if_reporter(rec, line, AGENCY_IDENTIFIER, context.reporter);
     let after_80 = reasons::note(known, reason_80, line, 80);
@@ -110,24 +83,17 @@ fn account_start(
 }
 
 // Fields 86 and 87.
-fn account_end(
-    known: Finding,
-    book: &[u8],
-    shelves: Book,
-    rec: &[u8],
-    line: Line,
-    context: Context,
-) -> Finding
-    requires { ⌜ Usable (now book) shelves × (length (now rec) ≡ 850) × Kept context ⌝ }
-    ensures { λ r. ⌜ r ≡ after known (findings (now (book .entry)) shelves context (line .number) (seen line (now (rec .entry))) (rows 86 87 N account)) ⌝ }
+fn account_end(known: Finding, rec: &[u8], line: Line, context: Context) -> Finding
+    requires { ⌜ (length (now rec) ≡ 850) × Kept context ⌝ }
+    ensures { λ r. ⌜ r ≡ after known (findings context (line .number) (seen line (now (rec .entry))) (rows 86 87 N account)) ⌝ }
 {
+    let codes = context.codes;
     let reason_86 = reporter_betc(
-        book,
-        shelves,
         rec,
         line,
         BUSINESS_EVENT_TYPE_CODE,
         context.reporter,
+        codes.betcs,
     );
     let after_86 = reasons::note(known, reason_86, line, 86);
     let reason_87 = values::number(rec, line, ACCOUNT_AMOUNT);
@@ -135,64 +101,36 @@ fn account_end(
 }
 
 // A DT.
-pub fn account_rules(
-    known: Finding,
-    book: &[u8],
-    shelves: Book,
-    rec: &[u8],
-    line: Line,
-    context: Context,
-) -> Finding
-    requires { ⌜ Usable (now book) shelves × (length (now rec) ≡ 850) × Kept context ⌝ }
-    ensures { λ r. ⌜ r ≡ after known (findings (now (book .entry)) shelves context (line .number) (seen line (now (rec .entry))) (rulesFor N account)) ⌝ }
+pub fn account_rules(known: Finding, rec: &[u8], line: Line, context: Context) -> Finding
+    requires { ⌜ (length (now rec) ≡ 850) × Kept context ⌝ }
+    ensures { λ r. ⌜ r ≡ after known (findings context (line .number) (seen line (now (rec .entry))) (rulesFor N account)) ⌝ }
 {
-    let begun = account_start(known, book, shelves, rec, line, context);
-    account_end(begun, book, shelves, rec, line, context)
+    let begun = account_start(known, rec, line, context);
+    account_end(begun, rec, line, context)
 }
 
 // A DP that is not the payment's only one.
-pub fn procurement_rules(
-    known: Finding,
-    book: &[u8],
-    shelves: Book,
-    rec: &[u8],
-    line: Line,
-    context: Context,
-) -> Finding
-    requires { ⌜ Usable (now book) shelves × (length (now rec) ≡ 850) × Kept context ⌝ }
-    ensures { λ r. ⌜ r ≡ after known (findings (now (book .entry)) shelves context (line .number) (seen line (now (rec .entry))) (rulesFor N procurement)) ⌝ }
+pub fn procurement_rules(known: Finding, rec: &[u8], line: Line, context: Context) -> Finding
+    requires { ⌜ (length (now rec) ≡ 850) × Kept context ⌝ }
+    ensures { λ r. ⌜ r ≡ after known (findings context (line .number) (seen line (now (rec .entry))) (rulesFor N procurement)) ⌝ }
 {
     let reason_96 = values::number(rec, line, PROCUREMENT_AMOUNT);
     reasons::note(known, reason_96, line, 96)
 }
 
 // A payment's only DP, which may leave the amount blank.
-pub fn lone_procurement_rules(
-    known: Finding,
-    book: &[u8],
-    shelves: Book,
-    rec: &[u8],
-    line: Line,
-    context: Context,
-) -> Finding
-    requires { ⌜ Usable (now book) shelves × (length (now rec) ≡ 850) × Kept context ⌝ }
-    ensures { λ r. ⌜ r ≡ after known (findings (now (book .entry)) shelves context (line .number) (seen line (now (rec .entry))) (rulesFor N loneProcurement)) ⌝ }
+pub fn lone_procurement_rules(known: Finding, rec: &[u8], line: Line, context: Context) -> Finding
+    requires { ⌜ (length (now rec) ≡ 850) × Kept context ⌝ }
+    ensures { λ r. ⌜ r ≡ after known (findings context (line .number) (seen line (now (rec .entry))) (rulesFor N loneProcurement)) ⌝ }
 {
     let reason_96 = values::if_number(rec, line, PROCUREMENT_AMOUNT);
     reasons::note(known, reason_96, line, 96)
 }
 
 // A BT: the count and the sum of the batch's payments.
-pub fn trailer_rules(
-    known: Finding,
-    book: &[u8],
-    shelves: Book,
-    rec: &[u8],
-    line: Line,
-    context: Context,
-) -> Finding
-    requires { ⌜ Usable (now book) shelves × (length (now rec) ≡ 850) × Kept context ⌝ }
-    ensures { λ r. ⌜ r ≡ after known (findings (now (book .entry)) shelves context (line .number) (seen line (now (rec .entry))) (rulesFor N trailer)) ⌝ }
+pub fn trailer_rules(known: Finding, rec: &[u8], line: Line, context: Context) -> Finding
+    requires { ⌜ (length (now rec) ≡ 850) × Kept context ⌝ }
+    ensures { λ r. ⌜ r ≡ after known (findings context (line .number) (seen line (now (rec .entry))) (rulesFor N trailer)) ⌝ }
 {
     let reason_99 = checks::number_is(rec, line, BATCH_TOTAL_COUNT, context.payments, 13);
     let after_99 = reasons::note(known, reason_99, line, 99);

@@ -21,7 +21,8 @@ use Rattle.nesting.specs.declared.Verdict.{Verdict}
 use Rattle.nesting.specs.declared.Verdict.the-variants.{Legal, Refused}
 use Rattle.nesting.specs.declared.reader.Place.the-variants.{FileClosed}
 use Rattle.nesting.specs.declared.reader.State.{State}
-use Rattle.nesting.specs.Division.{Record, paymentId}
+use Rattle.record.specs.Fields.{paymentId}
+use Rattle.nesting.specs.Division.{Record}
 use Rattle.nesting.specs.Records.{cut, records, Cuttable}
 use Rattle.nesting.specs.Promise.{Nested}
 use Rattle.nesting.specs.Reader.{isAt, fits, next, follows, after, moved, inBatch, inPayment, taken, start, readOn}

@@ -1,6 +1,7 @@
 use Rattle.batch.proofs.Judged.{some-record, judged}
 use Prim.Native.Nat.{_-_}
 use lib.ListN.{length}
+use Rattle.book.specs.Book.{listedAt}
 use Rattle.batch.proofs.Turns.{Walking, begun, turned, finished, number-room}
 use borrow.Author.Needs.{needs}
 use Rattle.batch.proofs.judge_batch.Statement.{statement}
@@ -8,7 +9,7 @@ use Rattle.batch.proofs.judge_batch.Tie as tie
 
 abbrev Inv-loop : tie.InvT-loop
 Inv-loop book shelves part first repeats repeat state₀ number₀ at₀ state number at =
-    Walking book shelves part first repeats repeat state number at
+    Walking (listedAt book shelves) part first repeats repeat state number at
 
 abbrev μ-loop : tie.MeasureT-loop
 μ-loop book shelves part first repeats repeat state₀ number₀ at₀ state number at = length part - at
@@ -34,7 +35,7 @@ add-number c = search needs
 loop-holds : tie.Need-loop-holds Inv-loop μ-loop
 loop-holds c =
     let j = c .before .before .before .before .before .pre .1 in
-    begun _ _ _ _ _ _ (j .whole) _ (some-record _ _ (j .batch .0) (j .batch .1)) (c .open-batch .ensures)
+    begun _ _ _ _ _ (j .whole) _ (some-record _ _ (j .batch .0) (j .batch .1)) (c .open-batch .ensures)
 
 add-end : tie.Need-add-end Inv-loop μ-loop
 add-end c = search needs
@@ -58,7 +59,7 @@ add-number-2 : tie.Need-add-number-2 Inv-loop μ-loop
 add-number-2 c =
     let l = c .before .before .before .before .loop in
     let j = c .before .before .before .before .before .before .before .before .before .before .pre .1 in
-    let k = number-room _ _ _ _ _ _ (j .whole) (l .state) (l .number) (l .at) (l .inv) (c .before .before .before .loop-test .taken) (j .few) in
+    let k = number-room _ _ _ _ _ (j .whole) (l .state) (l .number) (l .at) (l .inv) (c .before .before .before .loop-test .taken) (j .few) in
     search needs
 
 loop-less : tie.Need-loop-less Inv-loop μ-loop
@@ -69,8 +70,8 @@ loop-again c =
     let l = c .before .before .before .before .loop in
     let j = c .before .before .before .before .before .before .before .before .before .before .pre .1 in
     let k = c .before .before .before .loop-test .taken in
-    turned _ _ _ _ _ _ (j .whole) (l .state) (l .number) (l .at) (l .inv) _ _ k
-    (number-room _ _ _ _ _ _ (j .whole) (l .state) (l .number) (l .at) (l .inv) k (j .few)) (c .before .before .is-at .ensures) (c .step .ensures)
+    turned _ _ _ _ _ (j .whole) (l .state) (l .number) (l .at) (l .inv) _ _ k
+    (number-room _ _ _ _ _ (j .whole) (l .state) (l .number) (l .at) (l .inv) k (j .few)) (c .before .before .is-at .ensures) (c .step .ensures)
 
 row-of-requires : tie.Need-row-of-requires Inv-loop μ-loop
 row-of-requires c κs = search needs
@@ -79,8 +80,8 @@ returns : tie.Need-returns Inv-loop μ-loop
 returns c =
     let l = c .before .before .loop in
     let j = c .before .before .before .before .before .before .before .before .pre .1 in
-    λ b h. judged _ _ b h _ _ _ _ (l .state) (c .before .before .before .before .before .first-repeat .ensures)
-    (finished _ _ _ _ _ _ (j .whole) (l .state) (l .number) (l .at) (l .inv) (c .before .loop-test .left)) _ (c .row-of .ensures)
+    λ b h. judged _ _ b h _ _ _ (l .state) (c .before .before .before .before .before .first-repeat .ensures)
+    (finished _ _ _ _ _ (j .whole) (l .state) (l .number) (l .at) (l .inv) (c .before .loop-test .left)) _ (c .row-of .ensures)
 
 pub judge-batch-spec : {M : Type 1} → statement M
 judge-batch-spec =

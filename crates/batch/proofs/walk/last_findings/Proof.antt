@@ -1,5 +1,5 @@
 use Rattle.batch.proofs.Rooms.{room}
-use Rattle.batch.proofs.Laws.{then, in-context}
+use Rattle.batch.proofs.Laws.{then, in-context, emptied}
 use Rattle.reasons.proofs.Firsts.{more}
 use Rattle.reasons.proofs.Firsts as firsts
 use Rattle.batch.specs.Walk.{last}
@@ -12,6 +12,9 @@ account-limit-requires c κs = search needs
 
 note-requires : tie.Need-note-requires
 note-requires c κs = search needs
+
+location-only-requires : tie.Need-location-only-requires
+location-only-requires c κs = search needs
 
 context-of-requires : tie.Need-context-of-requires
 context-of-requires c κs = search needs
@@ -28,9 +31,9 @@ note-requires-2 c κs = search needs
 returns : tie.Need-returns
 unfolding last
 returns c =
-    more _ _ _ _ _ _ _ _ (c .before .before .before .before .note .ensures)
-    (c .before .before .before .before .before .account-limit .ensures)
-    (then _ _ _ _ _ (in-context _ _ _ _ _ _ _ _ _ (c .before .before .before .context-of .ensures) (c .before .before .trailer-rules .ensures)) (firsts.last _ _ _ _ _ _ (c .note2 .ensures) (c .before .summary-reason .ensures)))
+    more _ _ _ _ _ _ _ _ (c .before .before .before .before .before .note .ensures)
+    (c .before .before .before .before .before .before .account-limit .ensures)
+    (then _ _ _ _ _ (in-context _ _ _ _ _ _ _ (emptied _ _ _ _ _ (c .before .before .before .before .location-only .ensures) (c .before .before .before .context-of .ensures)) (c .before .before .trailer-rules .ensures)) (firsts.last _ _ _ _ _ _ (c .note2 .ensures) (c .before .summary-reason .ensures)))
 
 pub last-findings-spec : {M : Type 1} → statement M
 last-findings-spec =
@@ -38,6 +41,7 @@ last-findings-spec =
     (tie.spec
     account-limit-requires
     note-requires
+    location-only-requires
     context-of-requires
     trailer-rules-requires
     summary-reason-requires

@@ -9,8 +9,8 @@ code-of-requires c κs = search needs
 letter-in-requires : tie.Need-letter-in-requires
 letter-in-requires c κs = search needs
 
-is-flagged-requires : tie.Need-is-flagged-requires
-is-flagged-requires c κs = search needs
+location-requires : tie.Need-location-requires
+location-requires c κs = search needs
 
 symbol-of-requires : tie.Need-symbol-of-requires
 symbol-of-requires c κs = search needs
@@ -24,7 +24,7 @@ field-amount-requires c κs = search needs
 returns : tie.Need-returns
 returns c =
     head-read _ _ _ _ _ _ _ _ _ _ (c .before .before .before .before .before .code-of .ensures)
-    (c .before .before .before .before .letter-in .ensures) (c .before .before .before .is-flagged .ensures)
+    (c .before .before .before .before .letter-in .ensures) (c .before .before .before .location .ensures)
     (c .before .before .symbol-of .ensures) (c .before .first-serial .ensures) (c .field-amount .ensures)
 
 pub read-header-spec : {M : Type 1} → statement M
@@ -33,7 +33,7 @@ read-header-spec =
     (tie.spec
     code-of-requires
     letter-in-requires
-    is-flagged-requires
+    location-requires
     symbol-of-requires
     first-serial-requires
     field-amount-requires

@@ -6,11 +6,8 @@ use borrow.Author.Needs.{needs}
 use Rattle.batch.proofs.walk.take_detail.Statement.{statement}
 use Rattle.batch.proofs.walk.take_detail.Tie as tie
 
-is-reporter-requires : tie.Need-is-reporter-requires
-is-reporter-requires c κs = search needs
-
-context-of-requires : tie.Need-context-of-requires
-context-of-requires c κs = search needs
+paying-context-requires : tie.Need-paying-context-requires
+paying-context-requires c κs = search needs
 
 end-requires : tie.Need-end-requires
 end-requires c κs = search (needs, room)
@@ -26,19 +23,18 @@ begin-requires c κs = search needs
 
 add-payments : tie.Need-add-payments
 add-payments c =
-    let p = c .before .before .before .before .before .before .before .before .before .before .before .before .before .pre in
+    let p = c .before .before .before .before .before .before .before .before .before .before .before .before .pre in
     let h = payments-room _ _ (p .2) (p .3) in
     search needs
 
 plus-requires : tie.Need-plus-requires
 plus-requires c κs =
-    let p = c .before .before .before .before .before .before .before .before .before .before .before .before .before .pre in
+    let p = c .before .before .before .before .before .before .before .before .before .before .before .before .pre in
     total-room _ _ (p .2) (p .3) _ (small-read _ _ _ _ (omega arith, omega (arith, p .1)) refl (c .before .before .field-amount .ensures))
 
 returns : tie.Need-returns
 returns c =
-    detail-taken _ _ _ _ _ _ _ _ _ _ _ _ _ (c .before .before .before .before .before .before .before .is-reporter .ensures)
-    (c .before .before .before .before .before .before .context-of .ensures) (c .before .before .before .before .before .end .ensures)
+    detail-taken _ _ _ _ _ _ _ _ _ _ _ (c .before .before .before .before .before .before .paying-context .ensures) (c .before .before .before .before .before .end .ensures)
     (c .before .before .before .before .detail-rules .ensures) (c .before .before .before .field-amount .ensures)
     (c .before .before .begin .ensures) (c .plus .ensures)
 
@@ -46,8 +42,7 @@ pub take-detail-spec : {M : Type 1} → statement M
 take-detail-spec =
     tie.close
     (tie.spec
-    is-reporter-requires
-    context-of-requires
+    paying-context-requires
     end-requires
     detail-rules-requires
     field-amount-requires

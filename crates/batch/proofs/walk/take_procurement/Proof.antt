@@ -9,7 +9,7 @@ use Rattle.batch.proofs.walk.take_procurement.Tie as tie
 procurement-findings-requires : tie.Need-procurement-findings-requires
 procurement-findings-requires c κs =
     let p = c .before .before .before .before .pre in
-    (p .0, p .1, kept-open _ _ (p .2) (p .3), numbered _ _ (p .2) (p .3))
+    (p .0, kept-open _ _ (p .1) (p .2), numbered _ _ (p .1) (p .2))
 
 field-blank-requires : tie.Need-field-blank-requires
 field-blank-requires c κs = search needs
@@ -20,14 +20,14 @@ field-amount-requires c κs = search needs
 with-procurement-requires : tie.Need-with-procurement-requires
 with-procurement-requires c κs =
     let p = c .before .before .before .before .before .before .before .pre in
-    (own-room _ _ (p .2) (p .3), small-read _ _ _ _ (omega arith, omega (arith, p .1)) refl (c .field-amount .ensures))
+    (own-room _ _ (p .1) (p .2), small-read _ _ _ _ (omega arith, omega (arith, p .0)) refl (c .field-amount .ensures))
 
 know-requires : tie.Need-know-requires
 know-requires c κs = search needs
 
 returns : tie.Need-returns
 returns c =
-    procurement-taken _ _ _ _ _ _ _ _ _ _ (c .before .before .before .before .procurement-findings .ensures)
+    procurement-taken _ _ _ _ _ _ _ _ (c .before .before .before .before .procurement-findings .ensures)
     (c .before .before .before .field-blank .ensures) (c .before .before .field-amount .ensures) (c .before .with-procurement .ensures)
     (c .know .ensures)
 

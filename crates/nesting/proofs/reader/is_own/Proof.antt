@@ -6,7 +6,7 @@ use lib.ListN.{length}
 use Rattle.record.specs.Value.{held, seen}
 use Rattle.record.proofs.Held.{held-length}
 use Rattle.record.proofs.Same.{Both, both-none, same-more, same-stop, same-whole}
-use Rattle.nesting.specs.Division.{paymentId}
+use Rattle.record.specs.Fields.{paymentId}
 use Rattle.nesting.specs.Reader.{owns}
 use borrow.Author.Needs.{needs}
 

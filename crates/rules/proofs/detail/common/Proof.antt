@@ -13,7 +13,7 @@ address-requires c κs = search needs
 
 returns : tie.Need-returns
 returns c =
-    joined _ _ _ _ _ _ _ _ (rows 26 28 N detail) (rows 35 38 N detail) _ common-parts (c .before .payee .ensures) (c .address .ensures)
+    joined _ _ _ _ _ _ (rows 26 28 N detail) (rows 35 38 N detail) _ common-parts (c .before .payee .ensures) (c .address .ensures)
 
 pub common-spec : {M : Type 1} → statement M
 common-spec = tie.close (tie.spec payee-requires address-requires returns)

@@ -13,7 +13,7 @@ address-requires c κs = search needs
 
 returns : tie.Need-returns
 returns c =
-    joined _ _ _ _ _ _ _ _ (rows 26 29 C detail) (rows 35 38 N detail) _ common-c-parts (c .before .payee-c .ensures) (c .address .ensures)
+    joined _ _ _ _ _ _ (rows 26 29 C detail) (rows 35 38 N detail) _ common-c-parts (c .before .payee-c .ensures) (c .address .ensures)
 
 pub common-c-spec : {M : Type 1} → statement M
 common-c-spec = tie.close (tie.spec payee-c-requires address-requires returns)

@@ -69,33 +69,33 @@ end-a-requires c κs = search needs
 
 returns : tie.Need-returns
 returns c =
-    lettered _ _ _ _ _ _ _ _ N detail (search needs)
-    (joined _ _ _ _ _ _ _ _ (rows 23 24 N detail) (rows 26 38 N detail ++ rows 42 62 N detail) _ detail-n (c .before .before .start .ensures)
-    (joined _ _ _ _ _ _ _ _ (rows 26 38 N detail) (rows 42 62 N detail) _ refl (c .before .common .ensures) (c .end-n .ensures)))
+    lettered _ _ _ _ _ _ N detail (search needs)
+    (joined _ _ _ _ _ _ (rows 23 24 N detail) (rows 26 38 N detail ++ rows 42 62 N detail) _ detail-n (c .before .before .start .ensures)
+    (joined _ _ _ _ _ _ (rows 26 38 N detail) (rows 42 62 N detail) _ refl (c .before .common .ensures) (c .end-n .ensures)))
 
 returns-2 : tie.Need-returns-2
 returns-2 c =
-    lettered _ _ _ _ _ _ _ _ C detail (search needs)
-    (joined _ _ _ _ _ _ _ _ (rows 23 25 C detail) (rows 26 38 C detail ++ rows 42 62 C detail) _ detail-c (c .before .before .start-c .ensures)
-    (joined _ _ _ _ _ _ _ _ (rows 26 38 C detail) (rows 42 62 C detail) _ refl (c .before .common-c .ensures) (c .end-c .ensures)))
+    lettered _ _ _ _ _ _ C detail (search needs)
+    (joined _ _ _ _ _ _ (rows 23 25 C detail) (rows 26 38 C detail ++ rows 42 62 C detail) _ detail-c (c .before .before .start-c .ensures)
+    (joined _ _ _ _ _ _ (rows 26 38 C detail) (rows 42 62 C detail) _ refl (c .before .common-c .ensures) (c .end-c .ensures)))
 
 returns-3 : tie.Need-returns-3
 returns-3 c =
-    lettered _ _ _ _ _ _ _ _ W detail (search needs)
-    (joined _ _ _ _ _ _ _ _ (rows 23 24 N detail) (rows 26 38 N detail ++ rows 42 62 W detail) _ detail-w (c .before .before .start2 .ensures)
-    (joined _ _ _ _ _ _ _ _ (rows 26 38 N detail) (rows 42 62 W detail) _ refl (c .before .common2 .ensures) (c .end-w .ensures)))
+    lettered _ _ _ _ _ _ W detail (search needs)
+    (joined _ _ _ _ _ _ (rows 23 24 N detail) (rows 26 38 N detail ++ rows 42 62 W detail) _ detail-w (c .before .before .start2 .ensures)
+    (joined _ _ _ _ _ _ (rows 26 38 N detail) (rows 42 62 W detail) _ refl (c .before .common2 .ensures) (c .end-w .ensures)))
 
 returns-4 : tie.Need-returns-4
 returns-4 c =
-    lettered _ _ _ _ _ _ _ _ I detail (search needs)
-    (joined _ _ _ _ _ _ _ _ (rows 23 24 N detail) (rows 26 38 N detail ++ rows 42 62 I detail) _ detail-i (c .before .before .start3 .ensures)
-    (joined _ _ _ _ _ _ _ _ (rows 26 38 N detail) (rows 42 62 I detail) _ refl (c .before .common3 .ensures) (c .end-i .ensures)))
+    lettered _ _ _ _ _ _ I detail (search needs)
+    (joined _ _ _ _ _ _ (rows 23 24 N detail) (rows 26 38 N detail ++ rows 42 62 I detail) _ detail-i (c .before .before .start3 .ensures)
+    (joined _ _ _ _ _ _ (rows 26 38 N detail) (rows 42 62 I detail) _ refl (c .before .common3 .ensures) (c .end-i .ensures)))
 
 returns-5 : tie.Need-returns-5
 returns-5 c =
-    lettered _ _ _ _ _ _ _ _ A detail (search needs)
-    (joined _ _ _ _ _ _ _ _ (rows 23 24 N detail) (rows 26 38 N detail ++ rows 42 62 A detail) _ detail-a (c .before .before .start4 .ensures)
-    (joined _ _ _ _ _ _ _ _ (rows 26 38 N detail) (rows 42 62 A detail) _ refl (c .before .common4 .ensures) (c .end-a .ensures)))
+    lettered _ _ _ _ _ _ A detail (search needs)
+    (joined _ _ _ _ _ _ (rows 23 24 N detail) (rows 26 38 N detail ++ rows 42 62 A detail) _ detail-a (c .before .before .start4 .ensures)
+    (joined _ _ _ _ _ _ (rows 26 38 N detail) (rows 42 62 A detail) _ refl (c .before .common4 .ensures) (c .end-a .ensures)))
 
 pub detail-rules-spec : {M : Type 1} → statement M
 detail-rules-spec =

@@ -1,7 +1,7 @@
 use Rattle.record.specs.Choice.{choose, _and_, _or_}
 use Rattle.record.specs.Codes.{letterByte}
 use Rattle.reasons.proofs.Firsts.{more, last}
-use Rattle.rules.specs.Rules.{rows, among, findings, reason, header}
+use Rattle.rules.specs.Rules.{rows, among, findings, reason, inKind, header}
 use borrow.Author.Needs.{needs}
 use Rattle.rules.proofs.header.end_other.Statement.{statement}
 use Rattle.rules.proofs.header.end_other.Tie as tie
@@ -19,7 +19,7 @@ note-requires-2 : tie.Need-note-requires-2
 note-requires-2 c κs = search needs
 
 returns : tie.Need-returns
-unfolding rows among findings reason header letterByte choose _and_ _or_
+unfolding rows among findings reason inKind header letterByte choose _and_ _or_
 returns c =
     more _ _ _ _ _ _ _ _ (c .before .before .note .ensures) (c .before .before .before .voucher-form .ensures)
     (last _ _ _ _ _ _ (c .note2 .ensures) (c .before .in-book .ensures))

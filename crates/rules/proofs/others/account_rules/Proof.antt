@@ -13,7 +13,7 @@ account-end-requires c κs = search needs
 
 returns : tie.Need-returns
 returns c =
-    joined _ _ _ _ _ _ _ _ (rows 80 85 N account) (rows 86 87 N account) _ account-parts (c .before .account-start .ensures) (c .account-end .ensures)
+    joined _ _ _ _ _ _ (rows 80 85 N account) (rows 86 87 N account) _ account-parts (c .before .account-start .ensures) (c .account-end .ensures)
 
 pub account-rules-spec : {M : Type 1} → statement M
 account-rules-spec = tie.close (tie.spec account-start-requires account-end-requires returns)
