@@ -137,7 +137,7 @@ module _ (book : Contents) where
     unfolding codeBytes stepOf partied
     run-parties id n s xs os ys =
         let finds : Header → Open → ℕ → Record → List Finding = λ h. findBy same (rulesFor (h .letter) party) in
-        let found = found-each (rulesFor (s .header .letter) party) plusParty (λ o r. refl) (s .payment) n xs in
+        let found = found-each same (rulesFor (s .header .letter) party) plusParty (λ o r. refl) (s .payment) n xs in
         let count : s .accounts + 0 * length xs ≡ s .accounts = omega arith in
         run-group code.Party finds plusParty 0
         (λ u k r. ap (knowing u (after (u .finding) (finds (u .header) (u .payment) k r)) (u .payment)) (none-more (u .accounts))) id n s xs os ys
@@ -153,7 +153,7 @@ module _ (book : Contents) where
     run-accounts l id n s ts os ys =
         let adds = plusAccount book in
         let found =
-        found-each (rulesFor N account) adds (λ o r. refl) (s .payment) n ts
+        found-each (accountContext book) (rulesFor N account) adds (λ o r. refl) (s .payment) n ts
         ∙ ap (λ (rs : List Rule). each (accountContext book (s .payment .context)) rs n ts) (letterless l account (refl, (refl, (refl, (refl, (refl, tt)))))) in
         let count : s .accounts + 1 * length ts ≡ s .accounts + length ts = omega arith in
         run-group code.Account (λ (h : Header). findBy (accountContext book) (rulesFor N account)) adds 1 (λ u k r. refl) id n s ts os ys

@@ -10,7 +10,7 @@ use Rattle.record.specs.declared.codes.Letter.{Letter}
 use Rattle.record.specs.declared.codes.Letter.the-variants.{N}
 use Rattle.record.specs.declared.codes.Code.{Code}
 use Rattle.record.specs.Choice.{_and_, choose}
-use Rattle.record.specs.Fields.{summaryTotalAmount, agencyLocationCode, checkSymbolNumber, amount, accountAmount, procurementAmount}
+use Rattle.record.specs.Fields.{summaryTotalAmount, agencyLocationCode, checkSymbolNumber, amount, paymentTypeCode, stateCode, countryCode, originalCurrencyCode, accountAmount, procurementAmount}
 use Rattle.record.specs.Value.{held}
 use Rattle.record.specs.Tests.{blank}
 use Rattle.record.specs.Codes.{codeOf}
@@ -18,7 +18,7 @@ use Rattle.money.specs.declared.Amount.{Amount}
 use Rattle.money.specs.Money.{worth, split, cents}
 use Rattle.money.proofs.Amounts.{worth-split}
 use Rattle.book.specs.declared.search.Listing.{Listing}
-use Rattle.book.specs.Book.{Contents}
+use Rattle.book.specs.Book.{Contents, listing}
 use Rattle.nesting.specs.Division.{Record}
 use Rattle.repeats.specs.declared.Repeat.{Repeat}
 use Rattle.repeats.specs.declared.Repeat.the-variants.{At, Nowhere}
@@ -87,6 +87,10 @@ module _ (o : Open) (b : Bool) (n : ℕ) (a : Amount) where
   unfolding withProcurement choose
   procured-later e h = rw (ne-eqb (o .procurements) 0 e, h)
 
+-- the context of a record that has no codes
+pub emptied : (s : State) (k : Codes) (c : Context) (repeats reporter : Bool) → k ≡ noCodes → c ≡ contextOf s repeats reporter k → c ≡ contextOf s repeats reporter noCodes
+emptied s k c repeats reporter e h = h ∙ rw e
+
 module _ (n : ℕ) (r : Record) where
   -- the rules of a first DP, and of a later one
   module _ (c : Context) (f z : Finding) (k : ℕ) where
@@ -97,10 +101,6 @@ module _ (n : ℕ) (r : Record) where
     pub own-other : (k ≡ 0 → ⊥) → z ≡ after f (findings c n r (rulesFor N procurement)) → z ≡ after f (findings c n r (rulesFor N (choose (eqb k 0) loneProcurement procurement)))
     unfolding choose
     own-other e h = rw (ne-eqb k 0 e) h
-
-  -- the context of a record that has no codes
-  pub emptied : (s : State) (k : Codes) (c : Context) (repeats reporter : Bool) → k ≡ noCodes → c ≡ contextOf s repeats reporter k → c ≡ contextOf s repeats reporter noCodes
-  emptied s k c repeats reporter e h = h ∙ rw e
 
   -- the rules see the context that was put together
   pub in-context : (c d : Context) (f z : Finding) (rs : List Rule) → c ≡ d → z ≡ after f (findings c n r rs) → z ≡ after f (findings d n r rs)
@@ -124,6 +124,20 @@ module _ (n : ℕ) (r : Record) where
     unfolding trailed
     trailer-taken g f e d h = h ∙ rw (d, e)
 
+module _ (book : Contents) (r : Record) where
+  -- which of a detail's codes are listed
+  pub codes-looked-up : (payer : Bool) (t s c m : Listing) → t ≡ listing 25 (book .types) (held r paymentTypeCode) → s ≡ listing 2 (book .states) (held r stateCode)
+      → c ≡ listing 2 (book .countries) (held r countryCode) → m ≡ listing 3 (book .currencies) (held r originalCurrencyCode)
+      → record { locations = payer; betcs = false; types = t .listed; states = s .listed; countries = c .listed; currencies = m .listed } ≡ detailCodes book payer r
+  unfolding detailCodes
+  codes-looked-up payer t s c m d e f g = rw (d, e, f, g)
+
+  -- what the rules of a payment's records know
+  pub paying : (s : State) (repeats : Bool) (l : Listing) (k : Codes) (c : Context) → l ≡ payerIn book (s .header) r → k ≡ detailCodes book (l .listed) r
+      → c ≡ contextOf s repeats (l .flagged) k → c ≡ payingContext book s repeats r
+  unfolding payingContext
+  paying s repeats l k c p q h = h ∙ rw (q, p)
+
 module _ (book : Contents) (n : ℕ) (r : Record) where
   -- the state after a header
   abbrev zero-amount : Amount
@@ -146,12 +160,6 @@ module _ (book : Contents) (n : ℕ) (r : Record) where
       → record { number = n; letter = l; payer = payer; symbol = symbol; serial = serial; amount = a } ≡ head book n r
   unfolding head
   head-read c l payer symbol serial a p q u v w x = rw (x, w, v, u, q, p)
-
-  -- what the rules of a payment's records know
-  pub paying : (s : State) (repeats : Bool) (l : Listing) (k : Codes) (c : Context) → l ≡ payerIn book (s .header) r → k ≡ detailCodes book (l .listed) r
-      → c ≡ contextOf s repeats (l .flagged) k → c ≡ payingContext book s repeats r
-  unfolding payingContext
-  paying s repeats l k c p q h = h ∙ rw (q, p)
 
   -- the state after a detail and a DT
   module _ (s : State) where

@@ -313,9 +313,8 @@ fn procurement_findings(known: Finding, rec: &[u8], line: Line, payment: Open) -
     requires { ⌜ (length (now rec) ≡ 850) × Kept (payment .context) × (1 ≤ line .number) ⌝ }
     ensures { λ r. ⌜ r ≡ after known (nextProcurement payment (line .number) (seen line (now (rec .entry)))) ⌝ }
 {
-    let earlier = Line {
-        number: line.number - 1,
-    };
+    let before = line.number - 1;
+    let earlier = Line { number: before };
     let reason = first_reason(payment);
     let after_first = reasons::note(known, reason, earlier, 96);
     own_rules(after_first, rec, line, payment)

@@ -23,12 +23,12 @@ field-amount-requires c κs = search needs
 
 with-account-requires : tie.Need-with-account-requires
 with-account-requires c κs =
-    let p = c .before .before .before .before .before .before .before .before .pre in
+    let p = c .before .before .before .before .before .before .before .before .before .before .pre in
     (own-room _ _ (p .2) (p .3), small-read _ _ _ _ (omega arith, omega (arith, p .1)) refl (c .field-amount .ensures))
 
 add-accounts : tie.Need-add-accounts
 add-accounts c =
-    let p = c .before .before .before .before .before .before .before .before .before .before .pre in
+    let p = c .before .before .before .before .before .before .before .before .before .before .before .before .pre in
     let h = accounts-room _ _ (p .2) (p .3) in
     search needs
 

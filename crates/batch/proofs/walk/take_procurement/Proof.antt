@@ -8,7 +8,7 @@ use Rattle.batch.proofs.walk.take_procurement.Tie as tie
 
 procurement-findings-requires : tie.Need-procurement-findings-requires
 procurement-findings-requires c κs =
-    let p = c .before .before .before .before .pre in
+    let p = c .before .before .before .pre in
     (p .0, kept-open _ _ (p .1) (p .2), numbered _ _ (p .1) (p .2))
 
 field-blank-requires : tie.Need-field-blank-requires
@@ -19,7 +19,7 @@ field-amount-requires c κs = search needs
 
 with-procurement-requires : tie.Need-with-procurement-requires
 with-procurement-requires c κs =
-    let p = c .before .before .before .before .before .before .before .pre in
+    let p = c .before .before .before .before .before .before .pre in
     (own-room _ _ (p .1) (p .2), small-read _ _ _ _ (omega arith, omega (arith, p .0)) refl (c .field-amount .ensures))
 
 know-requires : tie.Need-know-requires
