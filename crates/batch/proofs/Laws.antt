@@ -12,13 +12,14 @@ use Rattle.record.specs.declared.codes.Code.{Code}
 use Rattle.record.specs.Choice.{_and_, choose}
 use Rattle.record.specs.Value.{held}
 use Rattle.record.specs.Tests.{blank}
-use Rattle.record.specs.Codes.{codeOf}
+use Rattle.record.specs.Codes.{codeOf, letterIn}
 use Rattle.money.specs.declared.Amount.{Amount}
 use Rattle.money.specs.Money.{worth, split, cents}
 use Rattle.money.proofs.Amounts.{worth-split}
 use Rattle.book.specs.declared.Book.{Book}
 use Rattle.book.specs.Book.{flagOf}
 use Rattle.nesting.specs.Division.{Record}
+use Rattle.nesting.specs.Paid.{amount}
 use Rattle.repeats.specs.declared.Repeat.{Repeat}
 use Rattle.repeats.specs.declared.Repeat.the-variants.{At, Nowhere}
 use Rattle.reasons.specs.declared.Finding.{Finding}
@@ -31,7 +32,7 @@ use Rattle.rules.specs.Rules.{Rule, symbolField, among, check, header, detail, 
 use Rattle.batch.specs.declared.payment.Open.{Open}
 use Rattle.batch.specs.declared.walk.Header.{Header}
 use Rattle.batch.specs.declared.walk.State.{State}
-use Rattle.batch.specs.Batch.{summaryTotal, agencyLocation, amount, accountAmount, procurementAmount, letterIn, firstSerial, isReporter, isCredit}
+use Rattle.batch.specs.Batch.{summaryTotal, agencyLocation, accountAmount, procurementAmount, firstSerial, isReporter, isCredit}
 use Rattle.batch.specs.Walk.{isAt, opened, withAccount, withProcurement, ended, contextOf, knowing, head, opening, reporterIn, nextProcurement, last, detailed, partied, accounted, procured, trailed, stepOf}
 
 -- which record repeats

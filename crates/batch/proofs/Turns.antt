@@ -19,13 +19,14 @@ use Rattle.money.specs.Money.{worth, split, cents}
 use Rattle.money.proofs.Amounts.{worth-split, split-whole, cents-below}
 use Rattle.book.specs.declared.Book.{Book}
 use Rattle.nesting.specs.Division.{Record}
+use Rattle.nesting.specs.Paid.{amount}
 use Rattle.nesting.specs.Records.{cut}
 use Rattle.repeats.specs.declared.Repeat.{Repeat}
 use Rattle.rules.specs.declared.Context.{Context}
 use Rattle.rules.specs.Rules.{Kept}
 use Rattle.batch.specs.declared.payment.Open.{Open}
 use Rattle.batch.specs.declared.walk.State.{State}
-use Rattle.batch.specs.Batch.{amount, accountAmount, procurementAmount}
+use Rattle.batch.specs.Batch.{accountAmount, procurementAmount}
 use Rattle.batch.specs.Walk.{Own, Room, isAt, opened, withAccount, withProcurement, knowing, head, opening, detailed, partied, accounted, procured, trailed, stepOf, run}
 use Rattle.batch.proofs.Rooms.{small-cents, small-plus, small-later, own-later, serial-below, kept-context}
 

@@ -7,18 +7,16 @@ use lib.Dec.{eqb, leb}
 use lib.ListN.{length}
 use Rattle.record.specs.declared.Field.{Field}
 use Rattle.record.specs.declared.codes.Letter.{Letter}
-use Rattle.record.specs.declared.codes.Letter.the-variants.{N}
-use Rattle.record.specs.declared.codes.Code.{Code}
-use Rattle.record.specs.declared.codes.Code.the-variants as code
 use Rattle.record.specs.Choice.{_and_, choose}
 use Rattle.record.specs.Value.{held}
 use Rattle.record.specs.Tests.{blank, digits}
 use Rattle.record.specs.Numeral.{numeral}
-use Rattle.record.specs.Codes.{codeOf}
+use Rattle.record.specs.Codes.{codeOf, letterIn}
 use Rattle.money.specs.Money.{split, cents, total}
 use Rattle.book.specs.declared.Book.{Book}
 use Rattle.book.specs.Book.{flagOf}
 use Rattle.nesting.specs.Division.{Record, paymentId, Payment, Batch, LegalBatch, batchLines}
+use Rattle.nesting.specs.Paid.{paid, paidBy}
 use Rattle.nesting.specs.Records.{cut}
 use Rattle.repeats.specs.Repeats.{member}
 use Rattle.reasons.specs.declared.Finding.{Finding}
@@ -30,15 +28,12 @@ use Rattle.rules.specs.Rules.{Rule, span, check, among, header, detail, party, 
 use Rattle.batch.specs.declared.Row.{Row}
 use Rattle.batch.specs.Sums.{Entry, balances, procures}
 
--- the fields that sums and reporters are read from: 004 fields 9, 14, 24, 29, 86, 87 and 96
+-- the fields that sums and reporters are read from: 004 fields 9, 14, 29, 86, 87 and 96
 abbrev pub summaryTotal : Field
 summaryTotal = span 33 52
 
 abbrev pub agencyLocation : Field
 agencyLocation = span 78 85
-
-abbrev pub amount : Field
-amount = span 23 42
 
 abbrev pub paymentLocation : Field
 paymentLocation = span 132 139
@@ -52,28 +47,9 @@ accountAmount = span 55 74
 abbrev pub procurementAmount : Field
 procurementAmount = span 131 150
 
--- the letter of a code; a code that has none, which no batch begins with, stands for N
-unfoldable pub letterIn : Code → Letter
-letterIn code.FileHeader = N
-letterIn (code.Batch l) = l
-letterIn (code.Detail l) = l
-letterIn code.Party = N
-letterIn code.Account = N
-letterIn code.Procurement = N
-letterIn code.BatchTrailer = N
-letterIn code.FileTrailer = N
-letterIn code.Unknown = N
-
 -- the letter of a batch, by its header
 unfoldable pub letterOf : Record → Letter
 letterOf h = letterIn (codeOf h)
-
--- the cents of a payment (field 24), and of payments
-unfoldable pub paid : Payment → ℕ
-paid p = cents (held (p .detail) amount)
-
-unfoldable pub paidBy : List Payment → ℕ
-paidBy ps = total (map paid ps)
 
 -- a payment's ID (field 23)
 abbrev pub idOf : Payment → List ℕ

@@ -9,12 +9,13 @@ use Rattle.record.specs.declared.codes.Code.the-variants as code
 use Rattle.record.specs.Choice.{_and_, choose}
 use Rattle.record.specs.Value.{held}
 use Rattle.record.specs.Tests.{blank}
-use Rattle.record.specs.Codes.{codeOf}
+use Rattle.record.specs.Codes.{codeOf, letterIn}
 use Rattle.money.specs.declared.Amount.{Amount}
 use Rattle.money.specs.Money as money
 use Rattle.money.specs.Money.{worth, split, cents, Whole, comesTo}
 use Rattle.book.specs.declared.Book.{Book}
 use Rattle.nesting.specs.Division.{Record}
+use Rattle.nesting.specs.Paid.{amount}
 use Rattle.repeats.specs.declared.Repeat.{Repeat}
 use Rattle.repeats.specs.declared.Repeat.the-variants.{At, Nowhere}
 use Rattle.reasons.specs.declared.Finding.{Finding}
@@ -25,7 +26,7 @@ use Rattle.batch.specs.declared.Row.{Row}
 use Rattle.batch.specs.declared.payment.Open.{Open}
 use Rattle.batch.specs.declared.walk.Header.{Header}
 use Rattle.batch.specs.declared.walk.State.{State}
-use Rattle.batch.specs.Batch.{summaryTotal, agencyLocation, amount, paymentLocation, accountAmount, procurementAmount, letterIn, firstSerial, isReporter, isCredit}
+use Rattle.batch.specs.Batch.{summaryTotal, agencyLocation, paymentLocation, accountAmount, procurementAmount, firstSerial, isReporter, isCredit}
 
 -- the record with this number is the one that repeats
 unfoldable pub isAt : Repeat → ℕ → Bool

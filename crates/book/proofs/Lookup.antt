@@ -7,6 +7,8 @@ use mathlib.Core.Logic.{⊎-elim}
 use Prim.Native.Nat.{ℕ, zero, suc, _+_, _-_, _*_, _/_, _≤_, _<_}
 use native.Mathlib.Nat.{eq-or-lt-of-le, eq-zero-or-pos, suc-mul, zero-mul, add-comm, add-sub-cancel-left}
 use native.Mathlib.Omega.{arith}
+use lib.Dec.{eqb}
+use borrow.Author.Tests.{ne-eqb}
 use lib.ListN.{length, take, drop, getD, length-take, length-drop, List·getD-eq-default}
 use lib.Seq.{drop-drop}
 use Rattle.record.specs.declared.Field.{Field}
@@ -21,7 +23,7 @@ use Rattle.record.proofs.Orders.{order-equal, order-self, order-transitive}
 use Rattle.book.specs.declared.Section.{Section}
 use Rattle.book.proofs.Bytes.{before}
 use Rattle.book.proofs.Entries.{cut-count}
-use Rattle.book.specs.Book.{lent, entryCode, isBefore, follow, ascend, cut, entriesAt, Shelved, entryFor, flagOf}
+use Rattle.book.specs.Book.{lent, entryCode, isBefore, follow, ascend, cut, entriesAt, Shelved, entryFor, isNone, flagOf}
 
 -- an entry among those that are cut
 cut-at : (w n : ℕ) (xs : List ℕ) (j : ℕ) → j < n → getD (cut w n xs) j [] ≡ take w (drop (j * w) xs)
@@ -200,3 +202,12 @@ unfolding flagOf
 no-flag e h =
     let n : length e ≤ 8 = omega arith in
     rw (List·getD-eq-default e 0 n)
+
+-- an entry that was found has bytes
+pub none-is : (e x : List ℕ) → e ≡ x → eqb (length e) 0 ≡ isNone x
+unfolding isNone
+none-is e x h = rw h (go x)
+  where
+    go : (y : List ℕ) → eqb (length y) 0 ≡ isNone y
+    go [] = refl
+    go (z ∷ y) = ne-eqb (suc (length y)) 0 (λ h. omega arith)

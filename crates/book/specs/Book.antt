@@ -208,6 +208,11 @@ unfoldable pub entryFor : ℕ → List (List ℕ) → List ℕ → List ℕ
 entryFor width [] x = []
 entryFor width (e ∷ es) x = choose (alike (entryCode width e) x) e (entryFor width es x)
 
+-- no entry
+unfoldable pub isNone : List ℕ → Bool
+isNone [] = true
+isNone (x ∷ xs) = false
+
 -- the flag of an entry of kind 2 or 3, after a code of eight bytes; an empty entry has none
 unfoldable pub flagOf : List ℕ → Bool
 flagOf e = eqb (getD e 8 0) 1

@@ -3,7 +3,7 @@
 use mathlib.Core.Path.{_≡_, refl, sym, ap, _∙_}
 use mathlib.Core.Bool.{Bool, true, false, true≢false}
 use mathlib.Core.List.{List, [], _∷_, _++_}
-use Prim.Native.Nat.{ℕ, suc, _+_, _-_, _*_, _<_, _≤_}
+use Prim.Native.Nat.{ℕ, _+_, _-_, _*_, _<_, _≤_}
 use native.Mathlib.Numerals.{add-one}
 use native.Mathlib.Omega.{arith}
 use lib.Dec.{eqb, leb, ltb}
@@ -26,7 +26,7 @@ use Rattle.reasons.specs.declared.lookups.Shelf.{Shelf}
 use Rattle.reasons.specs.declared.lookups.Shelf.the-variants.{Locations, Betcs, Types, States, Countries, Currencies}
 use Rattle.reasons.specs.Findings.{noted}
 use Rattle.reasons.specs.Lists.{oneOf}
-use Rattle.reasons.specs.Reasons.{shelf, isNone, symbolAndSerial}
+use Rattle.reasons.specs.Reasons.{shelf, symbolAndSerial}
 
 -- what is known of a thing is known of what it equals
 pub known : {A B : Type 0} (f : A → B) (x y : A) (r : B) → x ≡ y → r ≡ f y → r ≡ f x
@@ -138,15 +138,6 @@ module _ (f x : Finding) where
   pub note-new : f .reason ≡ 0 → (x .reason ≡ 0 → ⊥) → x ≡ noted f x
   unfolding noted choose
   note-new h k = rw (eq-eqb (f .reason) 0 h, ne-eqb (x .reason) 0 k)
-
--- an entry that was found has bytes
-pub none-is : (e x : List ℕ) → e ≡ x → eqb (length e) 0 ≡ isNone x
-unfolding isNone
-none-is e x h = rw h (go x)
-  where
-    go : (y : List ℕ) → eqb (length y) 0 ≡ isNone y
-    go [] = refl
-    go (z ∷ y) = ne-eqb (suc (length y)) 0 (λ h. omega arith)
 
 -- every kind can be looked up in
 pub shelved : (bytes : List ℕ) (b : Book) (k : Shelf) (s : Section) → Usable bytes b → s ≡ shelf b k → Shelved bytes s

@@ -1,7 +1,7 @@
 -- The reasons that one field can draw (01 Batch reasons), the least first; 0 where it is sound.
 use Prim.Native.Nat.{ℕ}
-use mathlib.Core.Bool.{Bool, true, false, not}
-use mathlib.Core.List.{List, [], _∷_, _++_}
+use mathlib.Core.Bool.{Bool, not}
+use mathlib.Core.List.{List, _++_}
 use lib.Dec.{eqb, leb, ltb}
 use lib.ListN.{replicate}
 use Rattle.record.specs.Choice.{_and_, choose}
@@ -12,7 +12,7 @@ use Rattle.money.specs.Money.{cents}
 use Rattle.calendar.specs.Calendar.{dashedDate, plainDate, monthYear}
 use Rattle.book.specs.declared.Section.{Section}
 use Rattle.book.specs.declared.Book.{Book}
-use Rattle.book.specs.Book.{entriesAt, entryFor}
+use Rattle.book.specs.Book.{entriesAt, entryFor, isNone}
 use Rattle.reasons.specs.declared.lookups.Shelf.{Shelf}
 use Rattle.reasons.specs.declared.lookups.Shelf.the-variants.{Locations, Betcs, Types, States, Countries, Currencies}
 use Rattle.reasons.specs.Lists.{oneOf}
@@ -73,11 +73,6 @@ shelf b Types = b .types
 shelf b States = b .states
 shelf b Countries = b .countries
 shelf b Currencies = b .currencies
-
--- no entry
-unfoldable pub isNone : List ℕ → Bool
-isNone [] = true
-isNone (x ∷ xs) = false
 
 -- the entry for a value
 unfoldable pub entry : List ℕ → Book → Shelf → List ℕ → List ℕ

@@ -7,8 +7,8 @@ use record::Field;
 use record::Line;
 ghost use mathlib.Core.Path.{_≡_};
 ghost use Rattle.record.specs.Value.{Has, seen, held};
-ghost use Rattle.book.specs.Book.{Usable, flagOf};
-ghost use Rattle.reasons.specs.Reasons.{shelf, isNone, entry, inBook, ifInBook};
+ghost use Rattle.book.specs.Book.{Usable, isNone, flagOf};
+ghost use Rattle.reasons.specs.Reasons.{shelf, entry, inBook, ifInBook};
 
 // The kinds of the book that fields of a batch are looked up in.
 pub enum Shelf {

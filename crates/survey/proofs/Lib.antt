@@ -1,3 +1,4 @@
+mod Details
 mod Turns
 pub mod Theorems
 pub mod Unique

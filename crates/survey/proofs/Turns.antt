@@ -1,6 +1,6 @@
 -- The loop over a file: what is left of its records decides, with what was found, and the sum has room for it.
 -- Assumes nothing.
-use mathlib.Core.Path.{_≡_, refl, sym, _∙_, subst}
+use mathlib.Core.Path.{_≡_, refl, sym, _∙_, ap, subst}
 use mathlib.Core.Bool.{Bool, true, false, not}
 use mathlib.Core.List.{List, [], _∷_}
 use Prim.Native.Nat.{ℕ, suc, _+_, _*_, _/_, _-_, _<_, _≤_}
@@ -22,17 +22,18 @@ use Rattle.nesting.specs.declared.Verdict.the-variants.{Legal, Refused}
 use Rattle.nesting.specs.declared.reader.Place.the-variants.{FileClosed}
 use Rattle.nesting.specs.declared.reader.State.{State}
 use Rattle.nesting.specs.Division.{Record, paymentId}
+use Rattle.nesting.specs.Paid.{paidByAll}
 use Rattle.nesting.specs.Records.{cut, records, Cuttable}
 use Rattle.nesting.specs.Promise.{Nested}
 use Rattle.nesting.specs.Reader.{isAt, fits, next, follows, after, moved, inBatch, inPayment, taken, start, readOn}
 use Rattle.nesting.proofs.Cuts.{records-whole, recordFrom, cut-next}
 use Rattle.nesting.proofs.Answer.{answer}
 use Rattle.characters.specs.Characters.{clean, firstUnclean}
-use Rattle.totals.specs.Totals.{detailCents, paidIn}
-use Rattle.totals.proofs.Codes.{cents-small}
 use Rattle.survey.specs.declared.Survey.{Survey}
+use Rattle.survey.specs.Pass.{detailCents, paidIn}
 use Rattle.survey.specs.Survey.{undivided, Surveyed}
 use Rattle.survey.specs.Survey.Surveyed.{legal, refused}
+use Rattle.survey.proofs.Details.{cents-small, paid-divided}
 
 -- the records that are left after n, from `at` on
 abbrev left : List ℕ → ℕ → ℕ → List Record
@@ -92,7 +93,9 @@ refused-in f k (Nested.refused _ t) = refused k t
 
 legal-in : (f : List ℕ) (b p u : ℕ) (sum : Amount) → Nested (records f) (Legal b p) → u ≡ firstUnclean 1 (records f) → sum ≡ split (paidIn (records f))
     → Surveyed f (record { nested = Legal b p; unclean = u; total = sum })
-legal-in f b p u sum (Nested.legal d h) e q = rw (e, q) (legal d h)
+legal-in f b p u sum (Nested.legal d h) e q =
+    let s : sum ≡ split (paidByAll (d .batches)) = q ∙ ap split (ap paidIn (sym (h .whole)) ∙ paid-divided d (h .legal)) in
+    rw (e, s) (legal d h)
 
 pub begun : (f : List ℕ) (s : State) → s ≡ start → Surveying f s 0 (record { high = 0; low = 0 }) 0 0
 unfolding start records choose Whole worth

@@ -2,7 +2,8 @@ use borrow.Author.Needs.{needs}
 use Rattle.reasons.proofs.lookups.is_absent.Statement.{statement}
 use Rattle.reasons.proofs.lookups.is_absent.Tie as tie
 use mathlib.Core.Path.{_∙_}
-use Rattle.reasons.proofs.Laws.{shelved, none-is}
+use Rattle.book.proofs.Lookup.{none-is}
+use Rattle.reasons.proofs.Laws.{shelved}
 use Rattle.reasons.specs.Reasons.{entry}
 
 section-requires : tie.Need-section-requires

@@ -1,7 +1,7 @@
-use Rattle.batch.specs.Batch.{letterIn}
+use Rattle.record.specs.Codes.{letterIn}
 use borrow.Author.Needs.{needs}
-use Rattle.batch.proofs.walk.letter_in.Statement.{statement}
-use Rattle.batch.proofs.walk.letter_in.Tie as tie
+use Rattle.record.proofs.codes.letter_in.Statement.{statement}
+use Rattle.record.proofs.codes.letter_in.Tie as tie
 
 enum-told : tie.Need-enum-told
 enum-told c = search needs

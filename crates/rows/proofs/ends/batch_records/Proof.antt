@@ -1,10 +1,9 @@
 use Prim.Native.Nat.{_-_}
 use lib.ListN.{length}
-use Rattle.record.proofs.Chain.{told}
-use Rattle.totals.proofs.Turns.{Counting, counting, counted, found, ended}
+use Rattle.rows.proofs.Trailers.{Counting, counting, counted, found, ended}
 use borrow.Author.Needs.{needs}
-use Rattle.totals.proofs.batch_records.Statement.{statement}
-use Rattle.totals.proofs.batch_records.Tie as tie
+use Rattle.rows.proofs.ends.batch_records.Statement.{statement}
+use Rattle.rows.proofs.ends.batch_records.Tie as tie
 
 abbrev Inv-loop : tie.InvT-loop
 Inv-loop part first count₀ from₀ count from = Counting part first count from
@@ -21,14 +20,17 @@ add-to c = search needs
 add-number : tie.Need-add-number Inv-loop μ-loop
 add-number c = search needs
 
-sub-is-trailer : tie.Need-sub-is-trailer Inv-loop μ-loop
-sub-is-trailer c = search needs
+sub-code-of : tie.Need-sub-code-of Inv-loop μ-loop
+sub-code-of c = search needs
 
-part-is-trailer-start : tie.Need-part-is-trailer-start Inv-loop μ-loop
-part-is-trailer-start c = search needs
+part-code-of-start : tie.Need-part-code-of-start Inv-loop μ-loop
+part-code-of-start c = search needs
 
-part-is-trailer-end : tie.Need-part-is-trailer-end Inv-loop μ-loop
-part-is-trailer-end c = search needs
+part-code-of-end : tie.Need-part-code-of-end Inv-loop μ-loop
+part-code-of-end c = search needs
+
+code-of-requires : tie.Need-code-of-requires Inv-loop μ-loop
+code-of-requires c κs = search needs
 
 is-trailer-requires : tie.Need-is-trailer-requires Inv-loop μ-loop
 is-trailer-requires c κs = search needs
@@ -37,7 +39,7 @@ add-result : tie.Need-add-result Inv-loop μ-loop
 add-result c = search needs
 
 returns : tie.Need-returns Inv-loop μ-loop
-returns c = search (needs, found, told)
+returns c = search (needs, found)
 
 add-count : tie.Need-add-count Inv-loop μ-loop
 add-count c = search needs
@@ -46,7 +48,7 @@ loop-less : tie.Need-loop-less Inv-loop μ-loop
 loop-less c = search needs
 
 loop-again : tie.Need-loop-again Inv-loop μ-loop
-loop-again c = search (needs, counted, told)
+loop-again c = search (needs, counted)
 
 returns-2 : tie.Need-returns-2 Inv-loop μ-loop
 returns-2 c = search (needs, ended)
@@ -60,9 +62,10 @@ batch-records-spec =
     loop-holds
     add-to
     add-number
-    sub-is-trailer
-    part-is-trailer-start
-    part-is-trailer-end
+    sub-code-of
+    part-code-of-start
+    part-code-of-end
+    code-of-requires
     is-trailer-requires
     add-result
     returns

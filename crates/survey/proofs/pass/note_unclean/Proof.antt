@@ -1,7 +1,7 @@
 use Rattle.record.proofs.Chain.{chain, reads}
 use borrow.Author.Needs.{needs}
-use Rattle.survey.proofs.note_unclean.Statement.{statement}
-use Rattle.survey.proofs.note_unclean.Tie as tie
+use Rattle.survey.proofs.pass.note_unclean.Statement.{statement}
+use Rattle.survey.proofs.pass.note_unclean.Tie as tie
 
 returns : tie.Need-returns
 returns c = search (needs, chain, reads)

@@ -1,7 +1,7 @@
 use Rattle.survey.proofs.Turns.{fit-split, plus-split}
 use borrow.Author.Needs.{needs}
-use Rattle.survey.proofs.add_detail.Statement.{statement}
-use Rattle.survey.proofs.add_detail.Tie as tie
+use Rattle.survey.proofs.pass.add_detail.Statement.{statement}
+use Rattle.survey.proofs.pass.add_detail.Tie as tie
 
 detail-amount-requires : tie.Need-detail-amount-requires
 detail-amount-requires c κs = search needs

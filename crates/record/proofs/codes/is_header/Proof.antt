@@ -1,8 +1,8 @@
-use Rattle.repeats.specs.Repeats.{isHeader}
-use Rattle.repeats.proofs.Places.{no-header}
+use Rattle.record.specs.Codes.{isHeader}
+use Rattle.record.proofs.OtherCodes.{no-header}
 use borrow.Author.Needs.{needs}
-use Rattle.repeats.proofs.walk.is_header.Statement.{statement}
-use Rattle.repeats.proofs.walk.is_header.Tie as tie
+use Rattle.record.proofs.codes.is_header.Statement.{statement}
+use Rattle.record.proofs.codes.is_header.Tie as tie
 
 enum-told : tie.Need-enum-told
 enum-told c = search needs

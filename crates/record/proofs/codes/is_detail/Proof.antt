@@ -1,8 +1,8 @@
-use Rattle.repeats.specs.Repeats.{isDetail}
-use Rattle.repeats.proofs.Places.{no-detail}
+use Rattle.record.specs.Codes.{isDetail}
+use Rattle.record.proofs.OtherCodes.{no-detail}
 use borrow.Author.Needs.{needs}
-use Rattle.repeats.proofs.walk.is_detail.Statement.{statement}
-use Rattle.repeats.proofs.walk.is_detail.Tie as tie
+use Rattle.record.proofs.codes.is_detail.Statement.{statement}
+use Rattle.record.proofs.codes.is_detail.Tie as tie
 
 enum-told : tie.Need-enum-told
 enum-told c = search needs
