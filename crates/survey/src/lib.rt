@@ -1,5 +1,5 @@
 // One pass over a file's records for three answers (01 File answers, 5, 7 and 13): a pass each would wait for the memory of each record three times.
-mod pass;
+pub mod pass;
 
 use money::Amount;
 use nesting::Verdict;
@@ -35,9 +35,7 @@ pub fn survey_file(file: &[u8]) -> Survey
     requires { ⌜ Cuttable (now file) ⌝ }
     ensures { λ r. ⌜ Surveyed (now (file .entry)) r ⌝ }
 {
-    let mut state = reader::start();
-    let mut unclean: usize = 0;
-    let mut total = Amount { high: 0, low: 0 };
+    let mut going = pass::start();
     let mut number: usize = 0;
     let mut at: usize = 0;
     while at < file.len() {
@@ -46,21 +44,22 @@ pub fn survey_file(file: &[u8]) -> Survey
         number += 1;
         let line = Line { number };
         let code = code_of(rec, line);
+        let state = going.state;
         if !reader::fits(rec, line, code, state) {
             return refuse(number);
         }
-        state = reader::after(rec, line, code, state);
-        unclean = pass::note_unclean(unclean, rec, line, code);
-        total = pass::add_detail(total, rec, line, code);
+        going = pass::step(rec, line, code, going);
         at = end;
     }
+    let state = going.state;
     if !reader::is_at(state, reader::Place::FileClosed) {
         return refuse(number + 1);
     }
     let nested = Verdict::Legal(state.batches, state.payments);
+    let total = going.total;
     Survey {
         nested,
-        unclean,
+        unclean: going.unclean,
         total,
     }
 }

@@ -1,4 +1,4 @@
-use Rattle.survey.proofs.Turns.{fit-split, plus-split}
+use Rattle.survey.proofs.Steps.{fit-split, plus-split}
 use borrow.Author.Needs.{needs}
 use Rattle.survey.proofs.pass.add_detail.Statement.{statement}
 use Rattle.survey.proofs.pass.add_detail.Tie as tie
