@@ -17,6 +17,7 @@ use Rattle.money.proofs.Amounts.{worth-split}
 use Rattle.book.specs.Book.{Contents}
 use Rattle.record.specs.Fields.{paymentId}
 use Rattle.nesting.specs.Division.{Record, All, DX, DT, DP, Own, Payment, Batch, paymentOnto, paymentsOnto, LegalPayment, LegalBatch}
+use Rattle.nesting.specs.Paid.{paid, paidBy}
 use Rattle.nesting.proofs.Coding.{of-bytes, lettered}
 use Rattle.reasons.specs.declared.Finding.{Finding}
 use Rattle.reasons.specs.Findings.{sound, first, after}
@@ -26,7 +27,7 @@ use Rattle.rules.specs.Rules.{Rule, header, detail, party, account, trailer, ru
 use Rattle.batch.specs.declared.payment.Open.{Open}
 use Rattle.batch.specs.declared.walk.Header.{Header}
 use Rattle.batch.specs.declared.walk.State.{State}
-use Rattle.batch.specs.Batch.{letterOf, paid, paidBy, size, sizes, accountCount, context, noCodes, payer, headerCodes, accountContext, detailContext, each, eachProcurement, payment, tooMany, summary}
+use Rattle.batch.specs.Batch.{letterOf, size, sizes, accountCount, context, noCodes, payer, headerCodes, accountContext, detailContext, each, eachProcurement, payment, tooMany, summary}
 use Rattle.batch.specs.Walk.{opened, withAccount, ended, contextOf, state, knowing, head, opening, payerIn, payingContext, detailed, partied, accounted, nextProcurement, procured, last, trailed, stepOf, run}
 use Rattle.batch.proofs.Marked.{markedPayments, markedFindings}
 use Rattle.batch.proofs.Ends.{none-more, one-more, after-none, grown, foundIn, plusParty, plusAccount, plusProcurement, parties-end, accounts-keep, endOf, sums-end, empty-end, letterless, same, findBy, found-each, found-procurements}

@@ -22,6 +22,7 @@ use Rattle.money.proofs.Amounts.{worth-split}
 use Rattle.money.proofs.Sums.{added, added-total, enteredAll, entered-total}
 use Rattle.book.specs.Book.{Contents}
 use Rattle.nesting.specs.Division.{Record, All, Payment}
+use Rattle.nesting.specs.Paid.{paid}
 use Rattle.reasons.specs.declared.Finding.{Finding}
 use Rattle.reasons.specs.Findings.{found, noted, after}
 use Rattle.reasons.specs.Reasons.{number, ifNumber}
@@ -30,7 +31,7 @@ use Rattle.rules.specs.declared.Context.{Context}
 use Rattle.rules.specs.Rules.{Rule, anyLetter, procurement, loneProcurement, reason, among, rows, rulesFor, findings}
 use Rattle.batch.specs.declared.payment.Open.{Open}
 use Rattle.batch.specs.Sums.{Entry, balances, allCents, procures}
-use Rattle.batch.specs.Batch.{paid, noRecords, betc, entryOf, each, eachProcurement, sums}
+use Rattle.batch.specs.Batch.{noRecords, betc, entryOf, each, eachProcurement, sums}
 use Rattle.batch.specs.Walk.{opened, withAccount, withProcurement, loneBlank, accountReason, procurementReason, lackReason, ended, nextProcurement}
 
 -- counts

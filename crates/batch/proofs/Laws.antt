@@ -13,7 +13,7 @@ use Rattle.record.specs.Choice.{_and_, choose}
 use Rattle.record.specs.Fields.{summaryTotalAmount, agencyLocationCode, checkSymbolNumber, amount, paymentTypeCode, stateCode, countryCode, originalCurrencyCode, accountAmount, procurementAmount}
 use Rattle.record.specs.Value.{held}
 use Rattle.record.specs.Tests.{blank}
-use Rattle.record.specs.Codes.{codeOf}
+use Rattle.record.specs.Codes.{codeOf, letterIn}
 use Rattle.money.specs.declared.Amount.{Amount}
 use Rattle.money.specs.Money.{worth, split, cents}
 use Rattle.money.proofs.Amounts.{worth-split}
@@ -31,7 +31,7 @@ use Rattle.rules.specs.Rules.{Rule, among, check, header, detail, party, accoun
 use Rattle.batch.specs.declared.payment.Open.{Open}
 use Rattle.batch.specs.declared.walk.Header.{Header}
 use Rattle.batch.specs.declared.walk.State.{State}
-use Rattle.batch.specs.Batch.{letterIn, firstSerial, noCodes, location, betc, withCodes, locationOnly, betcOnly, detailCodes, accountContext}
+use Rattle.batch.specs.Batch.{firstSerial, noCodes, location, betc, withCodes, locationOnly, betcOnly, detailCodes, accountContext}
 use Rattle.batch.specs.Walk.{isAt, opened, withAccount, withProcurement, ended, contextOf, knowing, head, opening, payerIn, payingContext, nextProcurement, last, detailed, partied, accounted, procured, trailed, stepOf}
 
 -- which record repeats

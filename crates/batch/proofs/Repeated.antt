@@ -16,7 +16,7 @@ use Rattle.record.specs.declared.codes.Code.the-variants as code
 use Rattle.record.specs.Choice.{_and_, _or_, choose}
 use Rattle.record.specs.Value.{held}
 use Rattle.record.specs.Tests.{blank}
-use Rattle.record.specs.Codes.{letterByte, codeBytes}
+use Rattle.record.specs.Codes.{letterByte, codeBytes, isDetail}
 use Rattle.book.specs.Book.{Contents}
 use Rattle.record.specs.Fields.{paymentId}
 use Rattle.nesting.specs.Division.{Record, All, Own, Coded, batchCode, Payment, Batch, LegalPayment, LegalBatch, paymentOnto, paymentsOnto, batchLines}
@@ -24,7 +24,7 @@ use Rattle.nesting.proofs.Coding.{of-bytes, lettered}
 use Rattle.repeats.specs.declared.Repeat.{Repeat}
 use Rattle.repeats.specs.declared.Repeat.the-variants.{At}
 use Rattle.repeats.specs.declared.Sort.the-variants.{Payments}
-use Rattle.repeats.specs.Repeats.{numbering, isDetail, isOf, numbers, member, repeats, firstRepeat}
+use Rattle.repeats.specs.Repeats.{numbering, isOf, numbers, member, repeats, firstRepeat}
 use Rattle.repeats.proofs.Looks.{numbers-snoc}
 use Rattle.reasons.specs.declared.Finding.{Finding}
 use Rattle.reasons.specs.Findings.{sound, first, noted, after}

@@ -6,19 +6,17 @@ use Prim.Native.Nat.{ℕ, _+_, _/_, _%_, _≤_}
 use lib.Dec.{eqb, leb}
 use lib.ListN.{length}
 use Rattle.record.specs.declared.codes.Letter.{Letter}
-use Rattle.record.specs.declared.codes.Letter.the-variants.{N}
-use Rattle.record.specs.declared.codes.Code.{Code}
-use Rattle.record.specs.declared.codes.Code.the-variants as code
 use Rattle.record.specs.Choice.{_and_, choose}
-use Rattle.record.specs.Fields.{summaryTotalAmount, agencyLocationCode, checkSymbolNumber, checkFirstSerialNumber, paymentId, amount, paymentTypeCode, paymentLocationCode, stateCode, countryCode, originalCurrencyCode, businessEventTypeCode, accountAmount, procurementAmount}
+use Rattle.record.specs.Fields.{summaryTotalAmount, agencyLocationCode, checkSymbolNumber, checkFirstSerialNumber, paymentId, paymentTypeCode, paymentLocationCode, stateCode, countryCode, originalCurrencyCode, businessEventTypeCode, accountAmount, procurementAmount}
 use Rattle.record.specs.Value.{held}
 use Rattle.record.specs.Tests.{digits}
 use Rattle.record.specs.Numeral.{numeral}
-use Rattle.record.specs.Codes.{codeOf}
+use Rattle.record.specs.Codes.{codeOf, letterIn}
 use Rattle.money.specs.Money.{split, cents, total}
 use Rattle.book.specs.declared.search.Listing.{Listing}
 use Rattle.book.specs.Book.{Contents, listing}
 use Rattle.nesting.specs.Division.{Record, Payment, Batch, LegalBatch, batchLines}
+use Rattle.nesting.specs.Paid.{paid, paidBy}
 use Rattle.nesting.specs.Records.{cut}
 use Rattle.repeats.specs.Repeats.{member}
 use Rattle.reasons.specs.declared.Finding.{Finding}
@@ -29,28 +27,9 @@ use Rattle.rules.specs.Rules.{Rule, check, among, header, detail, party, accoun
 use Rattle.batch.specs.declared.Row.{Row}
 use Rattle.batch.specs.Sums.{Entry, balances, procures}
 
--- the letter of a code; a code that has none, which no batch begins with, stands for N
-unfoldable pub letterIn : Code → Letter
-letterIn code.FileHeader = N
-letterIn (code.Batch l) = l
-letterIn (code.Detail l) = l
-letterIn code.Party = N
-letterIn code.Account = N
-letterIn code.Procurement = N
-letterIn code.BatchTrailer = N
-letterIn code.FileTrailer = N
-letterIn code.Unknown = N
-
 -- the letter of a batch, by its header
 unfoldable pub letterOf : Record → Letter
 letterOf h = letterIn (codeOf h)
-
--- the cents of a payment (field 24), and of payments
-unfoldable pub paid : Payment → ℕ
-paid p = cents (held (p .detail) amount)
-
-unfoldable pub paidBy : List Payment → ℕ
-paidBy ps = total (map paid ps)
 
 -- a payment's ID (field 23)
 abbrev pub idOf : Payment → List ℕ

@@ -10,7 +10,7 @@ use Rattle.record.specs.Choice.{_and_, choose}
 use Rattle.record.specs.Fields.{summaryTotalAmount, agencyLocationCode, checkSymbolNumber, amount, paymentLocationCode, accountAmount, procurementAmount}
 use Rattle.record.specs.Value.{held}
 use Rattle.record.specs.Tests.{blank}
-use Rattle.record.specs.Codes.{codeOf}
+use Rattle.record.specs.Codes.{codeOf, letterIn}
 use Rattle.money.specs.declared.Amount.{Amount}
 use Rattle.money.specs.Money as money
 use Rattle.money.specs.Money.{worth, split, cents, Whole, comesTo}
@@ -28,7 +28,7 @@ use Rattle.batch.specs.declared.Row.{Row}
 use Rattle.batch.specs.declared.payment.Open.{Open}
 use Rattle.batch.specs.declared.walk.Header.{Header}
 use Rattle.batch.specs.declared.walk.State.{State}
-use Rattle.batch.specs.Batch.{letterIn, firstSerial, noCodes, locationOnly, location, betc, detailCodes, accountContext}
+use Rattle.batch.specs.Batch.{firstSerial, noCodes, locationOnly, location, betc, detailCodes, accountContext}
 
 -- the record with this number is the one that repeats
 unfoldable pub isAt : Repeat → ℕ → Bool

@@ -10,6 +10,7 @@ use record::Line;
 use record::codes::Code;
 use record::codes::Letter;
 use record::codes::code_of;
+use record::codes::letter_in;
 use record::layout::*;
 use rules::Codes;
 use rules::Context;
@@ -33,7 +34,7 @@ ghost use Rattle.money.specs.Money.{worth, Whole};
 ghost use Rattle.book.specs.Book.{Usable, listedAt};
 ghost use Rattle.reasons.specs.Findings.{after};
 ghost use Rattle.rules.specs.Rules.{Kept, among, check, procurement, loneProcurement, rulesFor, findings};
-ghost use Rattle.batch.specs.Batch.{letterIn, firstSerial, withCodes};
+ghost use Rattle.batch.specs.Batch.{firstSerial, withCodes};
 ghost use Rattle.batch.specs.Walk.{Room, loneBlank, head, opening, contextOf, knowing, payerIn, payingContext, nextProcurement, last, detailed, partied, accounted, procured, trailed, stepOf};
 
 // What the header says: its record, the batch's letter, what the book says of the location in field 14, fields 18 and 19, and the total of
@@ -55,23 +56,6 @@ pub(crate) struct State {
     pub(crate) payments: u64,
     pub(crate) total: Amount,
     pub(crate) accounts: usize,
-}
-
-// The letter of a code.
-fn letter_in(code: Code) -> Letter
-    ensures { λ r. ⌜ r ≡ letterIn code ⌝ }
-{
-    match code {
-        Code::FileHeader => Letter::N,
-        Code::Batch(letter) => letter,
-        Code::Detail(letter) => letter,
-        Code::Party => Letter::N,
-        Code::Account => Letter::N,
-        Code::Procurement => Letter::N,
-        Code::BatchTrailer => Letter::N,
-        Code::FileTrailer => Letter::N,
-        Code::Unknown => Letter::N,
-    }
 }
 
 // The letter of check batches.

@@ -207,14 +207,17 @@ no-flag e h =
     rw (List·getD-eq-default e 0 n)
 
 -- an entry that was found has bytes
-some-entry : (e : List ℕ) → eqb (length e) 0 ≡ isNone e
+pub none-is : (e x : List ℕ) → e ≡ x → eqb (length e) 0 ≡ isNone x
 unfolding isNone
-some-entry [] = refl
-some-entry (x ∷ e) = ne-eqb (suc (length e)) 0 (λ h. omega arith)
+none-is e x h = rw h (go x)
+  where
+    go : (y : List ℕ) → eqb (length y) 0 ≡ isNone y
+    go [] = refl
+    go (z ∷ y) = ne-eqb (suc (length y)) 0 (λ h. omega arith)
 
 pub entry-says : (e : List ℕ) (flagged : Bool) → flagged ≡ flagOf e → record { listed = not (eqb (length e) 0); flagged = flagged } ≡ said e
 unfolding said
-entry-says e flagged h = rw (some-entry e, h)
+entry-says e flagged h = rw (none-is e e refl, h)
 
 -- nothing is said of a blank field, and of any other what its entry says
 pub unsaid : (width : ℕ) (es : List (List ℕ)) (v : List ℕ) → blank v ≡ true → record { listed = false; flagged = false } ≡ listing width es v

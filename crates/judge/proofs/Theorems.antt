@@ -13,11 +13,11 @@ use Rattle.record.specs.Value.{held}
 use Rattle.record.specs.Numeral.{numeral}
 use Rattle.book.specs.Book.{Contents, Lists}
 use Rattle.nesting.specs.Division.{Record, Division, DivisionOf, Divided, lines, paymentCount}
+use Rattle.nesting.specs.Paid.{paidByAll}
 use Rattle.nesting.specs.Records.{records, Cuttable}
 use Rattle.nesting.specs.Promise.{RefusedAt}
 use Rattle.nesting.proofs.Cuts.{cut-length}
 use Rattle.characters.specs.Characters.{clean, firstUnclean}
-use Rattle.totals.specs.Totals.{paidByAll}
 use Rattle.verdict.specs.Answer.{Reason, numberOf, totalCountRecords, totalCount, totalAmount, Applies, Names, Refused}
 use Rattle.verdict.proofs.Numbers.{one-reason}
 use Rattle.judge.specs.Judged.{Judged}

@@ -5,8 +5,8 @@ use lib.ListN.{length}
 use Rattle.money.specs.Money.{split}
 use Rattle.book.specs.Book.{Contents, Lists, placed}
 use Rattle.nesting.specs.Division.{Division, DivisionOf, paymentCount}
+use Rattle.nesting.specs.Paid.{paidByAll}
 use Rattle.nesting.specs.Records.{records}
-use Rattle.totals.specs.Totals.{paidByAll}
 use Rattle.verdict.specs.Answer.{Reason, numberOf, Applies, Refused}
 use Rattle.rows.specs.Report.{reportRows, reported}
 

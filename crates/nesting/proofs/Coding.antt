@@ -13,7 +13,7 @@ use Rattle.record.specs.declared.codes.Code.{Code}
 use Rattle.record.specs.declared.codes.Code.the-variants.{FileHeader, Batch, Detail, Party, Account, Procurement, BatchTrailer, FileTrailer, Unknown}
 use Rattle.record.specs.Value.{held}
 use Rattle.record.specs.Fields.{recordCode}
-use Rattle.record.specs.Codes.{letterByte, codeBytes, codeIn, codes, codeOf}
+use Rattle.record.specs.Codes.{letterByte, codeBytes, codeIn, codes, codeOf, letterIn}
 use Rattle.record.proofs.CodeList.{codes-apart, code-bytes}
 use Rattle.nesting.specs.declared.reader.Place.{Place}
 use Rattle.nesting.specs.declared.reader.Place.the-variants.{Start, FileOpen, BatchOpen, PaymentOpen, BatchClosed, FileClosed}
@@ -85,18 +85,6 @@ lettered b (inr (inr (inl e))) = (W, e)
 lettered b (inr (inr (inr (inl e)))) = (I, e)
 lettered b (inr (inr (inr (inr (inl e))))) = (A, e)
 lettered b (inr (inr (inr (inr (inr e))))) = absurd e
-
--- the letter that a batch's code names
-letterIn : Code → Letter
-letterIn FileHeader = N
-letterIn (Batch l) = l
-letterIn (Detail l) = l
-letterIn Party = N
-letterIn Account = N
-letterIn Procurement = N
-letterIn BatchTrailer = N
-letterIn FileTrailer = N
-letterIn Unknown = N
 
 pub same-letter : (l m : Letter) → sameLetter l m ≡ true → l ≡ m
 unfolding sameLetter codeBytes letterIn

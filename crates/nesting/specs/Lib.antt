@@ -1,4 +1,5 @@
 pub mod Division
+pub mod Paid
 pub mod Records
 pub mod Promise
 pub mod Reader

@@ -1,7 +1,7 @@
 -- The reasons that one field can draw (01 Batch reasons), the least first; 0 where it is sound.
 use Prim.Native.Nat.{ℕ}
-use mathlib.Core.Bool.{Bool, true, false, not}
-use mathlib.Core.List.{List, [], _∷_, _++_}
+use mathlib.Core.Bool.{Bool, not}
+use mathlib.Core.List.{List, _++_}
 use lib.Dec.{eqb, leb, ltb}
 use lib.ListN.{replicate}
 use Rattle.record.specs.Choice.{_and_, choose}

@@ -7,6 +7,7 @@ pub mod Numbers
 pub mod Orders
 pub mod Table
 pub mod CodeList
+mod OtherCodes
 mod Prefix
 pub mod Examples
 pub mod Unique

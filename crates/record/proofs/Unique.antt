@@ -13,6 +13,10 @@ use Rattle.record.proofs.part_number.Reads as part-number
 use Rattle.record.proofs.fields_same.Reads as fields-same
 use Rattle.record.proofs.fields_order.Reads as fields-order
 use Rattle.record.proofs.codes.code_of.Reads as code-of
+use Rattle.record.proofs.codes.is_detail.Reads as is-detail
+use Rattle.record.proofs.codes.is_header.Reads as is-header
+use Rattle.record.proofs.codes.is_trailer.Reads as is-trailer
+use Rattle.record.proofs.codes.letter_in.Reads as letter-in
 use Rattle.record.proofs.routing.field_routing.Reads as field-routing
 
 -- any two results that a contract allows for the same arguments are equal
@@ -54,6 +58,18 @@ fields-order-unique κs a r s x y p q = p ∙ sym q
 
 pub code-of-unique : OneResult code-of.Post
 code-of-unique κs a r s x y p q = p ∙ sym q
+
+pub is-detail-unique : OneResult is-detail.Post
+is-detail-unique κs a r s x y p q = p ∙ sym q
+
+pub is-header-unique : OneResult is-header.Post
+is-header-unique κs a r s x y p q = p ∙ sym q
+
+pub is-trailer-unique : OneResult is-trailer.Post
+is-trailer-unique κs a r s x y p q = p ∙ sym q
+
+pub letter-in-unique : OneResult letter-in.Post
+letter-in-unique κs a r s x y p q = p ∙ sym q
 
 pub field-routing-unique : OneResult field-routing.Post
 field-routing-unique κs a r s x y p q = p ∙ sym q

@@ -1,5 +1,6 @@
 -- The record codes of 004 section 1.2, in EBCDIC (01 Bytes).
 use Prim.Native.Nat.{ℕ}
+use mathlib.Core.Bool.{Bool, true, false}
 use mathlib.Core.List.{List, [], _∷_}
 use Rattle.record.specs.declared.codes.Letter.{Letter}
 use Rattle.record.specs.declared.codes.Letter.the-variants.{N, C, W, I, A}
@@ -51,3 +52,51 @@ codeIn (c ∷ cs) xs = choose (alike xs (codeBytes c)) c (codeIn cs xs)
 -- what a record is, by its first two bytes (01 Bytes)
 unfoldable pub codeOf : List ℕ → Code
 codeOf rec = codeIn codes (held rec recordCode)
+
+-- a detail: DN, DC, DW, DI or DA (004 section 1.2)
+unfoldable pub isDetail : Code → Bool
+isDetail FileHeader = false
+isDetail (Batch l) = false
+isDetail (Detail l) = true
+isDetail Party = false
+isDetail Account = false
+isDetail Procurement = false
+isDetail BatchTrailer = false
+isDetail FileTrailer = false
+isDetail Unknown = false
+
+-- a batch header: BN, BC, BW, BI or BA (004 section 1.2)
+unfoldable pub isHeader : Code → Bool
+isHeader FileHeader = false
+isHeader (Batch l) = true
+isHeader (Detail l) = false
+isHeader Party = false
+isHeader Account = false
+isHeader Procurement = false
+isHeader BatchTrailer = false
+isHeader FileTrailer = false
+isHeader Unknown = false
+
+-- a batch trailer: BT (004 section 1.2)
+unfoldable pub isTrailer : Code → Bool
+isTrailer FileHeader = false
+isTrailer (Batch l) = false
+isTrailer (Detail l) = false
+isTrailer Party = false
+isTrailer Account = false
+isTrailer Procurement = false
+isTrailer BatchTrailer = true
+isTrailer FileTrailer = false
+isTrailer Unknown = false
+
+-- the letter of a code; a code that has none, which no batch begins with, stands for N
+unfoldable pub letterIn : Code → Letter
+letterIn FileHeader = N
+letterIn (Batch l) = l
+letterIn (Detail l) = l
+letterIn Party = N
+letterIn Account = N
+letterIn Procurement = N
+letterIn BatchTrailer = N
+letterIn FileTrailer = N
+letterIn Unknown = N

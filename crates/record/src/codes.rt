@@ -6,7 +6,7 @@ ghost use Prim.Native.Nat.{_≤_};
 ghost use lib.ListN.{length};
 ghost use Rattle.record.specs.Value.{seen, held};
 ghost use Rattle.record.specs.Fields.{recordCode};
-ghost use Rattle.record.specs.Codes.{codeOf, codeIn, details, batches, frames};
+ghost use Rattle.record.specs.Codes.{codeOf, codeIn, details, batches, frames, isDetail, isHeader, isTrailer, letterIn};
 
 // The kind of a batch and of its details.
 pub enum Letter {
@@ -108,4 +108,51 @@ pub fn code_of(rec: &[u8], line: Line) -> Code
         return Code::Procurement;
     }
     detail_code(rec, line)
+}
+
+// The code is a detail's.
+pub fn is_detail(code: Code) -> bool
+    ensures { λ r. ⌜ r ≡ isDetail code ⌝ }
+{
+    match code {
+        Code::Detail(_) => true,
+        _ => false,
+    }
+}
+
+// The code is a batch header's.
+pub fn is_header(code: Code) -> bool
+    ensures { λ r. ⌜ r ≡ isHeader code ⌝ }
+{
+    match code {
+        Code::Batch(_) => true,
+        _ => false,
+    }
+}
+
+// The code is BT.
+pub fn is_trailer(code: Code) -> bool
+    ensures { λ r. ⌜ r ≡ isTrailer code ⌝ }
+{
+    match code {
+        Code::BatchTrailer => true,
+        _ => false,
+    }
+}
+
+// The letter of a code; N where it has none.
+pub fn letter_in(code: Code) -> Letter
+    ensures { λ r. ⌜ r ≡ letterIn code ⌝ }
+{
+    match code {
+        Code::FileHeader => Letter::N,
+        Code::Batch(letter) => letter,
+        Code::Detail(letter) => letter,
+        Code::Party => Letter::N,
+        Code::Account => Letter::N,
+        Code::Procurement => Letter::N,
+        Code::BatchTrailer => Letter::N,
+        Code::FileTrailer => Letter::N,
+        Code::Unknown => Letter::N,
+    }
 }

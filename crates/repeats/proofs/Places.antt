@@ -1,50 +1,22 @@
 -- What is read of a record at its place: its sort, its number.
 -- Assumes nothing.
-use mathlib.Core.Path.{_≡_, refl, _∙_}
-use mathlib.Core.Bool.{Bool, false}
-use mathlib.Core.List.{List, [], _∷_}
+use mathlib.Core.Path.{_≡_, _∙_}
+use mathlib.Core.Bool.{Bool}
+use mathlib.Core.List.{List}
 use Prim.Native.Nat.{ℕ, _+_, _*_, _≤_}
 use native.Mathlib.Omega.{arith}
-use types.Run.{OneOf, miss}
-use denote.Enum.Declared.{tagOf}
 use lib.ListN.{length}
 use Rattle.record.specs.declared.Field.{Field}
 use Rattle.record.specs.declared.codes.Code.{Code}
-use Rattle.record.specs.declared.codes.Code.the-variants.{FileHeader, Batch, Detail, Party, Account, Procurement, BatchTrailer, FileTrailer, Unknown}
 use Rattle.record.specs.Value.{held}
 use Rattle.record.specs.Tests.{alike}
 use Rattle.record.specs.Ordering.{order}
-use Rattle.record.specs.Codes.{codeOf}
+use Rattle.record.specs.Codes.{codeOf, isDetail, isHeader}
 use Rattle.repeats.specs.declared.Sort.{Sort}
 use Rattle.repeats.specs.declared.Sort.the-variants.{Payments, Batches}
-use Rattle.repeats.specs.Repeats.{numbering, isDetail, isHeader, isOf}
+use Rattle.repeats.specs.Repeats.{numbering, isOf}
 use Rattle.repeats.specs.Places.{recordAt, isAfter}
 use Rattle.repeats.proofs.Cuts.{taken, asTaken, taken-is, taken-length}
-
--- a code that is not the one asked for
-pub no-detail : (k : Code) → OneOf (0 ∷ 1 ∷ 3 ∷ 4 ∷ 5 ∷ 6 ∷ 7 ∷ 8 ∷ []) (tagOf Rattle.record.proofs.codes.Code.the-type k) → false ≡ isDetail k
-unfolding isDetail
-no-detail FileHeader h = refl
-no-detail (Batch l) h = refl
-no-detail (Detail l) h = absurd (miss (0 ∷ 1 ∷ 3 ∷ 4 ∷ 5 ∷ 6 ∷ 7 ∷ 8 ∷ []) 2 tt h)
-no-detail Party h = refl
-no-detail Account h = refl
-no-detail Procurement h = refl
-no-detail BatchTrailer h = refl
-no-detail FileTrailer h = refl
-no-detail Unknown h = refl
-
-pub no-header : (k : Code) → OneOf (0 ∷ 2 ∷ 3 ∷ 4 ∷ 5 ∷ 6 ∷ 7 ∷ 8 ∷ []) (tagOf Rattle.record.proofs.codes.Code.the-type k) → false ≡ isHeader k
-unfolding isHeader
-no-header FileHeader h = refl
-no-header (Batch l) h = absurd (miss (0 ∷ 2 ∷ 3 ∷ 4 ∷ 5 ∷ 6 ∷ 7 ∷ 8 ∷ []) 1 tt h)
-no-header (Detail l) h = refl
-no-header Party h = refl
-no-header Account h = refl
-no-header Procurement h = refl
-no-header BatchTrailer h = refl
-no-header FileTrailer h = refl
-no-header Unknown h = refl
 
 -- the record at the place is of the sort
 module _ (sort : Sort) (first place : ℕ) (xs : List ℕ) (k : Code) (r : Bool) (e : k ≡ codeOf (asTaken first place xs)) where

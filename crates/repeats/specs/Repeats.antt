@@ -1,18 +1,16 @@
 -- Numbers that repeat an earlier one (01 Batch reasons, 6): a batch's schedule number in the file, a Payment ID in its batch.
 use Prim.Native.Nat.{ℕ, _+_}
 use mathlib.Core.Path.{_≡_}
-use mathlib.Core.Bool.{Bool, true, false}
+use mathlib.Core.Bool.{Bool, false}
 use mathlib.Core.List.{List, [], _∷_, _++_}
 use Rattle.record.specs.declared.Field.{Field}
 use Rattle.record.specs.declared.Order.the-variants.{After}
-use Rattle.record.specs.declared.codes.Code.{Code}
-use Rattle.record.specs.declared.codes.Code.the-variants.{FileHeader, Batch, Detail, Party, Account, Procurement, BatchTrailer, FileTrailer, Unknown}
 use Rattle.record.specs.Choice.{_and_, _or_, choose}
 use Rattle.record.specs.Fields.{scheduleNumber, paymentId}
 use Rattle.record.specs.Value.{held}
 use Rattle.record.specs.Tests.{alike}
 use Rattle.record.specs.Ordering.{order}
-use Rattle.record.specs.Codes.{codeOf}
+use Rattle.record.specs.Codes.{codeOf, isDetail, isHeader}
 use Rattle.nesting.specs.Division.{Record}
 use Rattle.repeats.specs.declared.Repeat.{Repeat}
 use Rattle.repeats.specs.declared.Repeat.the-variants.{At, Nowhere}
@@ -23,29 +21,6 @@ use Rattle.repeats.specs.declared.Sort.the-variants.{Payments, Batches}
 unfoldable pub numbering : Sort → Field
 numbering Payments = paymentId
 numbering Batches = scheduleNumber
-
--- a detail, a batch header
-unfoldable pub isDetail : Code → Bool
-isDetail FileHeader = false
-isDetail (Batch l) = false
-isDetail (Detail l) = true
-isDetail Party = false
-isDetail Account = false
-isDetail Procurement = false
-isDetail BatchTrailer = false
-isDetail FileTrailer = false
-isDetail Unknown = false
-
-unfoldable pub isHeader : Code → Bool
-isHeader FileHeader = false
-isHeader (Batch l) = true
-isHeader (Detail l) = false
-isHeader Party = false
-isHeader Account = false
-isHeader Procurement = false
-isHeader BatchTrailer = false
-isHeader FileTrailer = false
-isHeader Unknown = false
 
 -- the record is numbered so
 unfoldable pub isOf : Sort → Record → Bool

@@ -2,8 +2,9 @@
 use crate::Sort;
 use record::Field;
 use record::Line;
-use record::codes::Code;
 use record::codes::code_of;
+use record::codes::is_detail;
+use record::codes::is_header;
 use record::layout::PAYMENT_ID;
 use record::layout::SCHEDULE_NUMBER;
 ghost use mathlib.Core.Path.{_≡_};
@@ -18,7 +19,7 @@ ghost use Rattle.record.specs.Ordering.{order};
 ghost use Rattle.nesting.specs.Records.{cut};
 ghost use Rattle.repeats.specs.declared.Repeat.the-variants.{Nowhere};
 ghost use Rattle.repeats.specs.declared.Sort.the-variants.{Payments, Batches};
-ghost use Rattle.repeats.specs.Repeats.{numbering, isDetail, isHeader, isOf, repeats, firstRepeat};
+ghost use Rattle.repeats.specs.Repeats.{numbering, isOf, repeats, firstRepeat};
 ghost use Rattle.repeats.specs.Places.{recordAt, Stands, isAfter, climbed};
 
 // Whether a payment's ID fails to stand after all those before it, and the greatest ID after it.
@@ -34,24 +35,6 @@ fn number_field(sort: Sort) -> Field
     match sort {
         Sort::Payments => PAYMENT_ID,
         Sort::Batches => SCHEDULE_NUMBER,
-    }
-}
-
-fn is_detail(code: Code) -> bool
-    ensures { λ r. ⌜ r ≡ isDetail code ⌝ }
-{
-    match code {
-        Code::Detail(_) => true,
-        _ => false,
-    }
-}
-
-fn is_header(code: Code) -> bool
-    ensures { λ r. ⌜ r ≡ isHeader code ⌝ }
-{
-    match code {
-        Code::Batch(_) => true,
-        _ => false,
     }
 }
 

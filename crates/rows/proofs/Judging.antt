@@ -14,9 +14,9 @@ use Rattle.repeats.specs.Repeats.{numbers, Topped}
 use Rattle.repeats.specs.Places.{looked}
 use Rattle.batch.specs.declared.Row.{Row}
 use Rattle.batch.specs.Batch.{Judgeable, IsRow, rowOf}
-use Rattle.totals.specs.Totals.{upToTrailer}
 use Rattle.rows.specs.Report.{batchRow}
 use Rattle.rows.specs.Standing.{Stands, Opens, judged, IsJudged}
+use Rattle.rows.specs.Ends.{upToTrailer}
 use Rattle.rows.proofs.Places.{restOf, partOf, rest, counted, trailed, look-is, topped-before, batch-of, judgeable}
 
 module _ {f : List ℕ} {place : ℕ} {g : List ℕ} (s : Opens f place g) where

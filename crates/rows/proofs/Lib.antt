@@ -1,4 +1,5 @@
 mod Schedules
+mod Trailers
 mod Places
 mod Judging
 mod Sizes

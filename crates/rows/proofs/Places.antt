@@ -18,10 +18,10 @@ use Rattle.repeats.specs.Places.{recordAt, raised, looked}
 use Rattle.repeats.proofs.Cuts.{cut-snoc}
 use Rattle.repeats.proofs.Looks.{numbers-snoc, looked-topped}
 use Rattle.batch.specs.Batch.{BatchOf, Judgeable}
-use Rattle.totals.specs.Totals.{upToTrailer}
-use Rattle.totals.proofs.Divided.{trailer-found}
 use Rattle.rows.specs.Report.{scheduleOf}
 use Rattle.rows.specs.Standing.{Stands}
+use Rattle.rows.specs.Ends.{upToTrailer}
+use Rattle.rows.proofs.Trailers.{trailer-found}
 use Rattle.rows.proofs.Schedules.{is-header, schedules}
 
 -- the rest of the bytes from a place on, and a part of so many records there, as the code takes them

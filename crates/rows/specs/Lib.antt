@@ -1,2 +1,3 @@
 pub mod Report
 pub mod Standing
+pub mod Ends

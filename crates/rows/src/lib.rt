@@ -1,4 +1,6 @@
 // The report of an accepted file (01 Report): the head and a row for each batch, each through its own part of the report.
+mod ends;
+
 use batch::Row;
 use book::Book;
 use money::Amount;
@@ -55,7 +57,7 @@ fn judge_next(file: &[u8], book: &[u8], shelves: Book, place: usize, greatest: [
 {
     let first = place + 1;
     let at = place * 850;
-    let records = totals::batch_records(&file[at..], first);
+    let records = ends::batch_records(&file[at..], first);
     let end = at + records * 850;
     let look = repeats::look_at_batch(file, place, greatest);
     let row = batch::judge_batch(book, shelves, &file[at..end], first, look.repeats);

@@ -5,15 +5,15 @@ use lib.ListN.{length}
 use Rattle.money.specs.Money.{split}
 use Rattle.nesting.specs.declared.Verdict.the-variants.{Legal, Refused}
 use Rattle.nesting.specs.Division.{Record, Division, DivisionOf, paymentCount}
+use Rattle.nesting.specs.Paid.{paidByAll}
 use Rattle.nesting.specs.Records.{records}
 use Rattle.nesting.specs.Promise.{RefusedAt}
 use Rattle.characters.specs.Characters.{firstUnclean}
-use Rattle.totals.specs.Totals.{paidIn}
 use Rattle.survey.specs.declared.Survey.{Survey}
 
--- of records that nest: the batches and payments of a division, the first record with a low byte, the sum of the details
+-- of records that nest: the batches and payments of a division, the first record with a low byte, the sum of the payments
 abbrev pub divided : List Record → Division → Survey
-divided rs d = record { nested = Legal (length (d .batches)) (paymentCount (d .batches)); unclean = firstUnclean 1 rs; total = split (paidIn rs) }
+divided rs d = record { nested = Legal (length (d .batches)) (paymentCount (d .batches)); unclean = firstUnclean 1 rs; total = split (paidByAll (d .batches)) }
 
 -- of others: the record at fault, and nothing else
 abbrev pub undivided : ℕ → Survey

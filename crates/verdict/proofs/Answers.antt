@@ -19,9 +19,9 @@ use Rattle.book.specs.declared.Book.{Book}
 use Rattle.book.specs.Book.{Contents, Lists, placed, standing, past}
 use Rattle.book.proofs.Chains.{shelves, lists-one}
 use Rattle.nesting.specs.Division.{Division, lines, paymentCount}
+use Rattle.nesting.specs.Paid.{paidByAll}
 use Rattle.nesting.specs.Records.{records}
 use Rattle.nesting.proofs.OneDivision.{one-division}
-use Rattle.totals.specs.Totals.{paidByAll}
 use Rattle.verdict.specs.declared.Verdict.{Verdict}
 use Rattle.verdict.specs.Answer.{numberOf, inputSystem, versionIdentifier, totalCountRecords, totalCount, totalAmount, version201, strange, numbered, Reason, acceptance, Of, Applies, Names, Judgement}
 use Rattle.verdict.specs.Answer.Reason.{Empty, Ragged, TooLong, BookUnsound, Nesting, InputSystem, Version, TrailerDigits, RecordCount, PaymentCount, TotalAmount}

@@ -15,10 +15,9 @@ use Rattle.book.specs.declared.Book.{Book}
 use Rattle.book.specs.Book.{Shelved, placed, past}
 use Rattle.book.proofs.Chains.{shelves}
 use Rattle.nesting.specs.Division.{Record, Division}
+use Rattle.nesting.specs.Paid.{paidByAll}
 use Rattle.nesting.specs.Records.{records}
 use Rattle.characters.specs.Characters.{clean, firstUnclean}
-use Rattle.totals.specs.Totals.{paidIn, paidByAll}
-use Rattle.totals.proofs.Divided.{paid-divided}
 use Rattle.verdict.specs.declared.Verdict.{Verdict}
 use Rattle.verdict.specs.Answer.{numberOf, refusal, Judgement}
 use Rattle.verdict.specs.Answer.Reason.{ReportShort, LowByte}
@@ -67,13 +66,10 @@ module _ (file book : List ℕ) (s : Book) (batches payments : ℕ) (total : Amo
     module _ (z : h ≡ 0) (t : ℕ)
         (f : t ≡ trailerReason (length file / 850) payments (worth total)
         (seen (record { number = length file / 850 }) (take (length file - (length file - 850)) (drop (length file - 850) file)))) where
-      paid : paidIn (records file) ≡ paidByAll (d .batches)
-      paid = rw (← k .divided .whole) (paid-divided d (k .divided .legal))
-
       trailer-read : (room : ℕ) → Clear file book room 8 → Tested file book room 14 (length file / 850) t
       trailer-read room c =
           let n : length file - (length file - 850) ≡ 850 = omega (arith, some-record) in
-          let w : worth total ≡ paidByAll (d .batches) = ap worth (k .summed) ∙ worth-split _ ∙ paid in
+          let w : worth total ≡ paidByAll (d .batches) = ap worth (k .summed) ∙ worth-split _ in
           let g = rw (n, w, trailer-last file (k .cuttable) d (k .divided)) at f in
           rw g (trailer-tested file book room s batches payments total k (clear-of file book room 10 1 h (header-read room c) z))
 
@@ -83,7 +79,7 @@ module _ (file book : List ℕ) (s : Book) (batches payments : ℕ) (total : Amo
       pub all-passed : t ≡ 0 → Framed file book (record { answer = 0; shelves = s; batches = batches; payments = payments; total = total })
       all-passed o =
           record {
-            judged = λ room c. rw (k .summed, paid) (accepted-as file book room s batches payments total k (clear-of file book room 14 (length file / 850) t (trailer-read room c) o));
+            judged = λ room c. rw (k .summed) (accepted-as file book room s batches payments total k (clear-of file book room 14 (length file / 850) t (trailer-read room c) o));
           }
 
   -- 6 and 7

@@ -12,10 +12,10 @@ use Rattle.book.specs.Book.{Contents, Lists, Opened, placed, shut}
 use Rattle.book.specs.Book.Opened.{sound, unsound}
 use Rattle.nesting.specs.declared.Verdict.the-variants as nested
 use Rattle.nesting.specs.Division.{Division, DivisionOf, paymentCount}
+use Rattle.nesting.specs.Paid.{paidByAll}
 use Rattle.nesting.specs.Records.{records, Cuttable}
 use Rattle.nesting.specs.Promise.{RefusedAt}
 use Rattle.characters.specs.Characters.{firstUnclean}
-use Rattle.totals.specs.Totals.{paidIn}
 use Rattle.survey.specs.declared.Survey.{Survey}
 use Rattle.survey.specs.Survey.{Surveyed}
 use Rattle.verdict.specs.declared.Verdict.{Verdict}
@@ -53,7 +53,7 @@ record Nests (file : List ℕ) (t : Survey) (b p : ℕ) : Type 0 where
   batched : b ≡ length (division .batches)
   paid : p ≡ paymentCount (division .batches)
   unclean : t .unclean ≡ firstUnclean 1 (records file)
-  summed : t .total ≡ split (paidIn (records file))
+  summed : t .total ≡ split (paidByAll (division .batches))
 
 nests : (file : List ℕ) (t : Survey) → Surveyed file t → (b p : ℕ) → t .nested ≡ nested.Legal b p → Nests file t b p
 nests file t (Surveyed.legal d h) b p e = record { division = d; divided = h; batched = cc; paid = cc; unclean = refl; summed = refl }

@@ -10,13 +10,12 @@ use Rattle.record.specs.Value.{held}
 use Rattle.record.specs.Tests.{blank, digits, alike}
 use Rattle.record.specs.Numeral.{numeral}
 use Rattle.money.specs.Money.{split}
-use Rattle.book.specs.Book.{Contents, Lists, entryFor, placed, shut}
+use Rattle.book.specs.Book.{Contents, Lists, entryFor, isNone, placed, shut}
 use Rattle.nesting.specs.Division.{Division, DivisionOf, Divided, lines, paymentCount}
+use Rattle.nesting.specs.Paid.{paidByAll}
 use Rattle.nesting.specs.Records.{records}
 use Rattle.nesting.specs.Promise.{RefusedAt}
 use Rattle.characters.specs.Characters.{firstUnclean}
-use Rattle.reasons.specs.Reasons.{isNone}
-use Rattle.totals.specs.Totals.{paidByAll}
 use Rattle.verdict.specs.declared.Verdict.{Verdict}
 
 -- the reasons of a refusal

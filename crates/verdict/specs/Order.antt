@@ -13,11 +13,10 @@ use Rattle.money.specs.declared.Amount.{Amount}
 use Rattle.money.specs.Money.{split, cents}
 use Rattle.book.specs.declared.Section.{Section}
 use Rattle.book.specs.declared.Book.{Book}
-use Rattle.book.specs.Book.{Contents, Lists, entriesAt, entryFor, placed, shut}
+use Rattle.book.specs.Book.{Contents, Lists, entriesAt, entryFor, isNone, placed, shut}
 use Rattle.nesting.specs.Division.{Record, Division, DivisionOf, paymentCount}
+use Rattle.nesting.specs.Paid.{paidByAll}
 use Rattle.nesting.specs.Records.{Cuttable, records}
-use Rattle.reasons.specs.Reasons.{isNone}
-use Rattle.totals.specs.Totals.{paidIn}
 use Rattle.verdict.specs.declared.Verdict.{Verdict}
 use Rattle.verdict.specs.Answer.{Reason, numberOf, Applies, Judgement, inputSystem, versionIdentifier, totalCountRecords, totalCount, totalAmount, version201}
 use Rattle.verdict.specs.Answer.Reason.{Empty, Ragged, TooLong, InputSystem, Version, TrailerDigits, RecordCount, PaymentCount, TotalAmount}
@@ -65,7 +64,7 @@ pub record Known (file book : List ℕ) (shelves : Book) (batches payments : ℕ
   pub divided : DivisionOf (records file) division
   pub batched : batches ≡ length (division .batches)
   pub paid : payments ≡ paymentCount (division .batches)
-  pub summed : total ≡ split (paidIn (records file))
+  pub summed : total ≡ split (paidByAll (division .batches))
 
 -- no reason with a number below n applies
 pub record Clear (file book : List ℕ) (room n : ℕ) : Type 0 where

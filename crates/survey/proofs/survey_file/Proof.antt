@@ -1,22 +1,22 @@
 use Prim.Native.Nat.{_-_}
 use lib.ListN.{length}
 use Rattle.record.proofs.Chain.{told-not, told-yes}
-use Rattle.survey.proofs.Turns.{Surveying, begun, fit, taking, turned, stopped, closed, unclosed}
+use Rattle.survey.proofs.Turns.{Surveying, surveying, number-few, turned, stopped, closed, unclosed}
 use borrow.Author.Needs.{needs}
 use Rattle.survey.proofs.survey_file.Statement.{statement}
 use Rattle.survey.proofs.survey_file.Tie as tie
 
 abbrev Inv-loop : tie.InvT-loop
-Inv-loop file state₀ unclean₀ total₀ number₀ at₀ state unclean total number at = Surveying file state unclean total number at
+Inv-loop file going₀ number₀ at₀ going number at = Surveying file going number at
 
 abbrev μ-loop : tie.MeasureT-loop
-μ-loop file state₀ unclean₀ total₀ number₀ at₀ state unclean total number at = length file - at
+μ-loop file going₀ number₀ at₀ going number at = length file - at
 
 start-requires : tie.Need-start-requires Inv-loop μ-loop
 start-requires c κs = search needs
 
 loop-holds : tie.Need-loop-holds Inv-loop μ-loop
-loop-holds c = begun _ _ (c .start .ensures)
+loop-holds c = surveying _ _ (c .start .ensures)
 
 add-end : tie.Need-add-end Inv-loop μ-loop
 add-end c = search needs
@@ -44,43 +44,27 @@ refuse-requires c κs = search needs
 
 returns : tie.Need-returns Inv-loop μ-loop
 returns c =
-    let d = c .before .before .before .before .before .before in
-    let l = d .loop in
+    let d = c .before .before .before .before .before .before .before in
     let e = d .before .before in
-    let h = c .before .before .before .before .before .loop-test .taken in
-    stopped _ _ _ _ _ _ (e .before .pre) (l .inv) _ h (c .before .before .before .code-of .ensures) _ (c .before .before .fits2 .ensures)
+    let h = c .before .before .before .before .before .before .loop-test .taken in
+    stopped _ _ _ _ (e .before .pre) (d .loop .inv) _ h (c .before .before .before .before .code-of .ensures) _ (c .before .before .fits2 .ensures)
     (λ i. e .shared-slice-known .given i .fits) (c .before .if1 .taken) _ (c .refuse .ensures)
 
-after-requires : tie.Need-after-requires Inv-loop μ-loop
-after-requires c κs =
-    let d = c .before .before .before .before .before in
-    let l = d .loop in
-    let h = c .before .before .before .before .loop-test .taken in
-    let k = c .before .before .code-of .ensures in
-    let t = taking _ _ _ _ _ _ (d .before .before .before .pre) (l .inv) _ h k _ (c .before .fits2 .ensures) (c .if1 .left) in
-    (search needs, t .0, t .1, t .2)
-
-note-unclean-requires : tie.Need-note-unclean-requires Inv-loop μ-loop
-note-unclean-requires c κs = search needs
-
-add-detail-requires : tie.Need-add-detail-requires Inv-loop μ-loop
-add-detail-requires c κs =
-    let d = c .before .before .before .before .before .before .before in
-    let l = d .loop in
-    let h = c .before .before .before .before .before .before .loop-test .taken in
-    (search needs, c .before .before .before .before .code-of .ensures, fit _ _ _ _ _ _ (d .before .before .before .pre) (l .inv) h)
+step-requires : tie.Need-step-requires Inv-loop μ-loop
+step-requires c κs =
+    let d = c .before .before .before .before .before .before in
+    let l = d .loop .inv in
+    let h = c .before .before .before .before .before .loop-test .taken in
+    (search needs, number-few _ _ _ _ (d .before .before .before .pre) l h, c .before .before .before .code-of .ensures, told-yes _ _ (c .before .fits2 .ensures) (c .if1 .left), l .room)
 
 loop-less : tie.Need-loop-less Inv-loop μ-loop
 loop-less c = search needs
 
 loop-again : tie.Need-loop-again Inv-loop μ-loop
 loop-again c =
-    let d = c .before .before .before .before .before .before .before .before in
-    let l = d .loop in
-    let h = c .before .before .before .before .before .before .before .loop-test .taken in
-    let k = c .before .before .before .before .before .code-of .ensures in
-    turned _ _ _ _ _ _ (d .before .before .before .pre) (l .inv) _ h k _ (c .before .before .before .before .fits2 .ensures) (c .before .before .before .if1 .left)
-    _ (c .before .before .after .ensures) _ (c .before .note-unclean .ensures) _ (c .add-detail .ensures)
+    let d = c .before .before .before .before .before .before .before in
+    let h = c .before .before .before .before .before .before .loop-test .taken in
+    turned _ _ _ _ (d .before .before .before .pre) (d .loop .inv) _ h (c .before .before .before .before .code-of .ensures) _ (c .before .before .fits2 .ensures) (c .before .if1 .left) _ (c .step .ensures)
 
 is-at-requires : tie.Need-is-at-requires Inv-loop μ-loop
 is-at-requires c κs = search needs
@@ -93,19 +77,17 @@ refuse-requires-2 c κs = search needs
 
 returns-2 : tie.Need-returns-2 Inv-loop μ-loop
 returns-2 c =
-    let d = c .before .before .before .before in
-    let l = d .loop in
+    let d = c .before .before .before .before .before in
     let e = d .before .before in
-    unclosed _ _ _ _ _ _ (e .before .pre) (l .inv) (λ i. e .shared-slice-known .given i .fits) (c .before .before .before .loop-test .left)
+    unclosed _ _ _ _ (e .before .pre) (d .loop .inv) (λ i. e .shared-slice-known .given i .fits) (c .before .before .before .before .loop-test .left)
     (told-not _ _ (c .before .before .is-at .ensures) (c .before .if2 .taken)) _ (c .refuse2 .ensures)
 
 returns-3 : tie.Need-returns-3 Inv-loop μ-loop
 returns-3 c =
-    let d = c .before .before .before in
-    let l = d .loop in
+    let d = c .before .before .before .before .before in
     let e = d .before .before in
-    closed _ _ _ _ _ _ (e .before .pre) (l .inv) (λ i. e .shared-slice-known .given i .fits) (c .before .before .loop-test .left)
-    (told-yes _ _ (c .before .is-at .ensures) (c .if2 .left))
+    closed _ _ _ _ (e .before .pre) (d .loop .inv) (λ i. e .shared-slice-known .given i .fits) (c .before .before .before .before .loop-test .left)
+    (told-yes _ _ (c .before .before .is-at .ensures) (c .before .if2 .left))
 
 pub survey-file-spec : {M : Type 1} → statement M
 survey-file-spec =
@@ -124,9 +106,7 @@ survey-file-spec =
     fits-requires
     refuse-requires
     returns
-    after-requires
-    note-unclean-requires
-    add-detail-requires
+    step-requires
     loop-less
     loop-again
     is-at-requires

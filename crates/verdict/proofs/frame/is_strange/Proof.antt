@@ -1,6 +1,6 @@
 use Rattle.verdict.specs.Order.{strangeIn}
 use Rattle.record.proofs.Chain.{chain, reads}
-use Rattle.reasons.proofs.Laws.{none-is}
+use Rattle.book.proofs.Lookup.{none-is}
 use borrow.Author.Needs.{needs}
 use Rattle.verdict.proofs.frame.is_strange.Statement.{statement}
 use Rattle.verdict.proofs.frame.is_strange.Tie as tie

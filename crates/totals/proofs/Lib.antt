@@ -1,4 +1,0 @@
-pub mod Codes
-mod Turns
-pub mod Divided
-pub mod Unique
