@@ -1,5 +1,5 @@
 // One pass over a file's records for three answers (01 File answers, 5, 7 and 13): a pass each would wait for the memory of each record three times.
-pub mod pass;
+mod pass;
 
 use money::Amount;
 use nesting::Verdict;

@@ -22,10 +22,10 @@ ghost use Rattle.survey.specs.Pass.{detailCents, begun, stepped, Room};
 
 // What is known after a record: the reader's state, the first record with a byte below hex 40 outside its fillers, or 0, and the exact
 // sum of the details.
-pub struct Going {
-    pub state: State,
-    pub unclean: usize,
-    pub total: Amount,
+pub(crate) struct Going {
+    pub(crate) state: State,
+    pub(crate) unclean: usize,
+    pub(crate) total: Amount,
 }
 
 // The first record with a low byte up to this one, or 0: the earlier one that is known, or else this one where it has such a byte.
@@ -63,7 +63,7 @@ fn add_detail(sum: Amount, rec: &[u8], line: Line, code: Code) -> Amount
 }
 
 // Before the first record.
-pub fn start() -> Going
+pub(crate) fn start() -> Going
     ensures { λ r. ⌜ r ≡ begun ⌝ }
 {
     let state = reader::start();
@@ -76,7 +76,7 @@ pub fn start() -> Going
 }
 
 // After one record more, which has this code and fits.
-pub fn step(rec: &[u8], line: Line, code: Code, going: Going) -> Going
+pub(crate) fn step(rec: &[u8], line: Line, code: Code, going: Going) -> Going
     requires { ⌜ (850 ≤ length (now rec)) × (line .number ≤ 65535) × (code ≡ codeOf (seen line (now rec))) × (fits (going .state) code (held (seen line (now rec)) paymentId) ≡ true) × Room (line .number) going ⌝ }
     ensures { λ r. ⌜ r ≡ stepped (line .number) (seen line (now (rec .entry))) going ⌝ }
 {
