@@ -1,40 +1,34 @@
--- Little-endian numbers, and bytes cut into entries.
+-- The numbers of a section, and bytes cut into entries.
 -- Assumes nothing.
-use mathlib.Core.Path.{_≡_, _∙_}
-use mathlib.Core.List.{List, [], _∷_, _++_}
+use mathlib.Core.Path.{_≡_}
+use mathlib.Core.List.{List, [], _∷_}
 use Prim.Native.Nat.{ℕ, suc, _+_, _-_, _*_, _^_, _≤_, _<_}
 use native.Mathlib.Numerals.{add-one}
-use native.Mathlib.Nat.{pow-suc, pow-zero, add-mul, mul-assoc, mul-le-mul-right, suc-mul}
+use native.Mathlib.Nat.{pow-le-pow-right, mul-le-mul-right, suc-mul}
 use native.Mathlib.Omega.{arith}
-use lib.ListN.{length, take, drop, getD, length-take, length-drop}
-use lib.Seq.{drop-cons, drop-drop, take-add}
+use lib.ListN.{length, take, drop, length-take}
+use lib.Seq.{drop-drop}
+use Rattle.numbers.specs.Numbers.{numberIn}
 use Rattle.book.specs.Book.{cut}
-use Rattle.book.specs.Reading.{numberOf}
+use Rattle.book.specs.Reading.{sizeAt, kindAt}
 
--- the first bytes of a part
-pub two-are : (bs : List ℕ) (at : ℕ) → at + 2 ≤ length bs → take 2 (drop at bs) ≡ getD bs at 0 ∷ getD bs (at + 1) 0 ∷ []
-two-are bs at h =
-    let m : at < length bs = omega arith in
-    let n : suc at < length bs = omega arith in
-    rw (add-one, drop-cons bs at 0, drop-cons bs (suc at) 0)
+-- a section's length and kind, as the code takes their bytes out of the book
+pub size-read : (bs : List ℕ) (at n : ℕ) → n ≡ numberIn (take (at + 4 - at) (drop at bs)) → n ≡ sizeAt bs at
+unfolding sizeAt
+size-read bs at n e =
+    let w : at + 4 - at ≡ 4 = omega arith in
+    rw w at e
 
-pub number-two : (bs : List ℕ) (at low high : ℕ) → at + 2 ≤ length bs → low ≡ getD bs at 0 → high ≡ getD bs (at + 1) 0 → low + high * 256 ≡ numberOf (take 2 (drop at bs))
-unfolding numberOf
-number-two bs at low high h p q = rw (two-are bs at h) (omega (arith, p, q))
+pub size-small : (bs : List ℕ) (at n : ℕ) → n < 256 ^ length (take (at + 4 - at) (drop at bs)) → n < 4294967296
+size-small bs at n h =
+    let w : length (take (at + 4 - at) (drop at bs)) ≤ 4 = rw length-take (omega arith) in
+    omega (arith, h, pow-le-pow-right {n = 256} (omega arith) w)
 
-number-append : (xs ys : List ℕ) → numberOf (xs ++ ys) ≡ numberOf xs + numberOf ys * 256 ^ length xs
-unfolding numberOf
-number-append [] ys = simp pow-zero (omega arith)
-number-append (x ∷ xs) ys =
-    rw (number-append xs ys, pow-suc, ← mul-assoc (numberOf ys) (256 ^ length xs) 256)
-    (omega (arith, add-mul (numberOf xs) (numberOf ys * 256 ^ length xs) 256))
-
-pub number-four : (bs : List ℕ) (at low high : ℕ) → at + 4 ≤ length bs → low ≡ numberOf (take 2 (drop at bs)) → high ≡ numberOf (take 2 (drop (at + 2) bs))
-    → low + high * 65536 ≡ numberOf (take 4 (drop at bs))
-number-four bs at low high h p q =
-    let n : length (take 2 (drop at bs)) ≡ 2 = simp (length-take, length-drop) (omega arith) in
-    let t : take 4 (drop at bs) ≡ take 2 (drop at bs) ++ take 2 (drop (at + 2) bs) = take-add 2 2 (drop at bs) ∙ rw (drop-drop 2 at bs) in
-    rw (t, number-append, n) (omega (arith, p, q))
+pub kind-read : (bs : List ℕ) (at n : ℕ) → n ≡ numberIn (take (at + 6 - (at + 4)) (drop (at + 4) bs)) → n ≡ kindAt bs at
+unfolding kindAt
+kind-read bs at n e =
+    let w : at + 6 - (at + 4) ≡ 2 = omega arith in
+    rw w at e
 
 -- i entries lie before the ones that are left
 pub before : (i n w : ℕ) → i < n → i * w + w ≤ n * w

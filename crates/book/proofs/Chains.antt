@@ -9,6 +9,7 @@ use native.Mathlib.Omega.{arith}
 use lib.ListN.{length, drop, length-drop, drop-of-length-le}
 use lib.Dec.{leb}
 use borrow.Author.Tests.{eq-eqb, eqb-true, leb-true}
+use Rattle.numbers.proofs.Laws.{Bytes}
 use Rattle.record.specs.Choice.{_and_, choose}
 use Rattle.record.proofs.Chain.{and-left, and-right, and-yes}
 use Rattle.book.specs.declared.Kind.{Kind}
@@ -18,7 +19,6 @@ use Rattle.book.specs.declared.reading.Found.{Found}
 use Rattle.book.specs.Book.{systemKind, locationKind, betcKind, typeKind, stateKind, countryKind, currencyKind, entriesAt, sectionOf, Contents, bookOf, Lists, standing, past, systemsAt, locationsAt, betcsAt, typesAt, statesAt, countriesAt, currenciesAt, placed, nowhere, shut, Opened, listedAt, ShelvedAs, Usable}
 use Rattle.book.specs.Book.Opened.{sound, unsound}
 use Rattle.book.specs.Reading.{Kinded, sectionAt, sectionAfter, lost, begun, bound, ended}
-use Rattle.book.proofs.Entries.{Bytes}
 use Rattle.book.proofs.Pieces.{Piece, piece, Stood, stood}
 
 -- a kind of document 01, by a test that is computed

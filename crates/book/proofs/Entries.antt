@@ -3,58 +3,17 @@
 use mathlib.Core.Path.{_≡_, refl, sym, ap}
 use mathlib.Core.Bool.{true}
 use mathlib.Core.List.{List, [], _∷_, _++_, append-assoc}
-use Prim.Native.Nat.{ℕ, zero, suc, _+_, _*_, _/_, _%_, _^_, _≤_, _<_}
-use native.Mathlib.Nat.{pow-suc, suc-mul}
+use Prim.Native.Nat.{ℕ, zero, suc, _+_, _*_, _≤_}
+use native.Mathlib.Nat.{suc-mul}
 use native.Mathlib.Omega.{arith}
-use lib.ListN.{length, take, drop, getD, length-take, length-drop, length-append}
+use lib.ListN.{length, take, drop, length-take, length-drop, length-append}
 use lib.Seq.{take-at, drop-at, take-add}
 use Rattle.record.specs.Choice.{_and_}
 use Rattle.record.proofs.Chain.{and-left, and-right}
 use Rattle.book.specs.declared.Kind.{Kind}
-use Rattle.book.specs.Book.{flagged, Each, little, joined, cut}
+use Rattle.book.specs.Book.{flagged, Each, joined, cut}
 use Rattle.book.specs.Book.Each.{none, more}
-use Rattle.book.specs.Reading.{numberOf, flags}
-
--- little-endian bytes
-pub little-length : (w n : ℕ) → length (little w n) ≡ w
-unfolding little
-little-length zero n = refl
-little-length (suc w) n = ap suc (little-length w (n / 256))
-
-pub little-number : (w n : ℕ) → n < 256 ^ w → numberOf (little w n) ≡ n
-unfolding little numberOf
-little-number zero n h = omega (arith, h)
-little-number (suc w) n h = rw (little-number w (n / 256) (omega (arith, rw pow-suc at h))) (omega arith)
-
--- every element is a byte
-pub Bytes : List ℕ → Type 0
-Bytes [] = Unit {0}
-Bytes (x ∷ xs) = (x < 256) × Bytes xs
-
-pub number-little : (xs : List ℕ) → Bytes xs → little (length xs) (numberOf xs) ≡ xs
-unfolding little numberOf Bytes
-number-little [] b = refl
-number-little (x ∷ xs) b =
-    let h : (x + numberOf xs * 256) % 256 ≡ x = omega (arith, b .0) in
-    let d : (x + numberOf xs * 256) / 256 ≡ numberOf xs = omega (arith, b .0) in
-    rw (h, d, number-little xs (b .1))
-
-pub bytes-all : (xs : List ℕ) → ((i : ℕ) → getD xs i 0 < 256) → Bytes xs
-unfolding Bytes
-bytes-all [] h = tt
-bytes-all (x ∷ xs) h = (h 0, bytes-all xs (λ i. h (suc i)))
-
-pub bytes-take : (n : ℕ) (xs : List ℕ) → Bytes xs → Bytes (take n xs)
-unfolding Bytes
-bytes-take zero xs b = tt
-bytes-take (suc n) [] b = tt
-bytes-take (suc n) (x ∷ xs) b = (b .0, bytes-take n xs (b .1))
-
-pub bytes-drop : (n : ℕ) (xs : List ℕ) → Bytes xs → Bytes (drop n xs)
-unfolding Bytes
-bytes-drop zero xs b = b
-bytes-drop (suc n) [] b = tt
-bytes-drop (suc n) (x ∷ xs) b = bytes-drop n xs (b .1)
+use Rattle.book.specs.Reading.{flags}
 
 -- entries and the bytes that they make
 module _ (k : Kind) where

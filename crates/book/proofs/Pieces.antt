@@ -9,13 +9,15 @@ use native.Mathlib.Omega.{arith}
 use borrow.Author.Tests.{le-leb, eq-eqb}
 use lib.ListN.{length, take, drop, length-take, length-drop, length-append, take-append-drop}
 use lib.Seq.{take-at, drop-at, drop-drop}
+use Rattle.numbers.specs.Numbers.{little, numberIn}
+use Rattle.numbers.proofs.Laws.{Bytes, little-length, little-number, number-little, bytes-take, bytes-drop}
 use Rattle.record.specs.Choice.{_and_, choose}
 use Rattle.record.proofs.Chain.{and-left, and-right, and-yes, choose-yes}
 use Rattle.book.specs.declared.Kind.{Kind}
 use Rattle.book.specs.declared.reading.Found.{Found}
-use Rattle.book.specs.Book.{Entries, little, joined, sectionOf, entriesAt, Shelved, standing, past}
-use Rattle.book.specs.Reading.{numberOf, Readable, Kinded, sizeAt, kindAt, framed, sectionIn, soundIn, sectionAt, lost}
-use Rattle.book.proofs.Entries.{little-length, little-number, Bytes, number-little, bytes-take, bytes-drop, joined-length, cut-joined, each-flags, cut-each, joined-cut}
+use Rattle.book.specs.Book.{Entries, joined, sectionOf, entriesAt, Shelved, standing, past}
+use Rattle.book.specs.Reading.{Readable, Kinded, sizeAt, kindAt, framed, sectionIn, soundIn, sectionAt, lost}
+use Rattle.book.proofs.Entries.{joined-length, cut-joined, each-flags, cut-each, joined-cut}
 use Rattle.book.proofs.Frames.{Frame, frame-of}
 
 -- a section of k with entries es stands at a place, is found there, can be looked up in, and rest follows it
@@ -50,12 +52,12 @@ module _ (bs : List ℕ) (at : ℕ) (k : Kind) (es : List (List ℕ)) (rest : Li
   size-is : sizeAt bs at ≡ 2 + length (joined es)
   unfolding sizeAt
   size-is =
-      ap numberOf (ap (take 4) behind-size ∙ take-at (little 4 (2 + length (joined es))) _ 4 (little-length 4 (2 + length (joined es))))
+      ap numberIn (ap (take 4) behind-size ∙ take-at (little 4 (2 + length (joined es))) _ 4 (little-length 4 (2 + length (joined es))))
       ∙ little-number 4 (2 + length (joined es)) (omega (arith, long, r .small))
 
   kind-is : kindAt bs at ≡ k .number
   unfolding kindAt
-  kind-is = ap numberOf (ap (take 2) behind-kind ∙ take-at (little 2 (k .number)) _ 2 (little-length 2 (k .number))) ∙ little-number 2 (k .number) n
+  kind-is = ap numberIn (ap (take 2) behind-kind ∙ take-at (little 2 (k .number)) _ 2 (little-length 2 (k .number))) ∙ little-number 2 (k .number) n
 
   entries-long : length (joined es) ≡ length es * k .entry
   entries-long = joined-length k es (s .each)
@@ -155,7 +157,7 @@ module _ (bs : List ℕ) (at : ℕ) (k : Kind) (b : Bytes bs) (t : sectionAt bs 
   unfolding sizeAt
   size-bytes =
       let n : length (take 4 (drop at bs)) ≡ 4 = simp (length-take, length-drop) (omega (arith, frame .head)) in
-      let m : 2 + length (joined listed) ≡ numberOf (take 4 (drop at bs)) = omega (arith, found-long, frame .least) in
+      let m : 2 + length (joined listed) ≡ numberIn (take 4 (drop at bs)) = omega (arith, found-long, frame .least) in
       rw m (rw n at (number-little (take 4 (drop at bs)) (bytes-take 4 (drop at bs) (bytes-drop at bs b))))
 
   kind-bytes : little 2 (k .number) ≡ take 2 (drop (at + 4) bs)

@@ -1,10 +1,11 @@
 -- The lent code book (01 Code book): what a book is, said by the entries that it is made of.
-use Prim.Native.Nat.{ℕ, zero, suc, _+_, _*_, _/_, _%_, _≤_}
+use Prim.Native.Nat.{ℕ, zero, suc, _+_, _*_, _≤_}
 use mathlib.Core.Path.{_≡_}
 use mathlib.Core.Bool.{Bool, true, false, not}
 use mathlib.Core.List.{List, [], _∷_, _++_}
 use lib.Dec.{leb, eqb}
 use lib.ListN.{length, take, drop, getD}
+use Rattle.numbers.specs.Numbers.{little}
 use Rattle.record.specs.declared.Line.{Line}
 use Rattle.record.specs.declared.Order.{Order}
 use Rattle.record.specs.declared.Order.the-variants.{Before, Same, After}
@@ -76,11 +77,6 @@ pub data Each (k : Kind) : List (List ℕ) → Type 0 where
 pub record Entries (k : Kind) (es : List (List ℕ)) : Type 0 where
   pub each : Each k es
   pub ascending : ascend (k .code) es ≡ true
-
--- a number in w little-endian bytes
-unfoldable pub little : ℕ → ℕ → List ℕ
-little zero n = []
-little (suc w) n = n % 256 ∷ little w (n / 256)
 
 -- the entries, one after another
 unfoldable pub joined : List (List ℕ) → List ℕ

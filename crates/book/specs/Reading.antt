@@ -4,6 +4,7 @@ use mathlib.Core.Bool.{Bool, true, false}
 use mathlib.Core.List.{List, [], _∷_}
 use lib.Dec.{leb, eqb}
 use lib.ListN.{length, take, drop}
+use Rattle.numbers.specs.Numbers.{numberIn}
 use Rattle.record.specs.Choice.{_and_, choose}
 use Rattle.book.specs.declared.Kind.{Kind}
 use Rattle.book.specs.declared.Section.{Section}
@@ -27,11 +28,6 @@ pub record Framed (bytes : List ℕ) (s : Section) : Type 0 where
   pub within : s .start + s .count * s .entry ≤ length bytes
   pub whole : s .code ≤ s .entry
   pub flag : s .entry ≤ s .code + 1
-
--- the number that little-endian bytes write
-unfoldable pub numberOf : List ℕ → ℕ
-numberOf [] = 0
-numberOf (x ∷ xs) = x + numberOf xs * 256
 
 -- every entry's flag is a flag
 unfoldable pub flags : ℕ → List (List ℕ) → Bool
@@ -61,10 +57,10 @@ bound a b c d e f g = record {
 
 -- the length and the kind that stand at a place
 unfoldable pub sizeAt : List ℕ → ℕ → ℕ
-sizeAt bytes at = numberOf (take 4 (drop at bytes))
+sizeAt bytes at = numberIn (take 4 (drop at bytes))
 
 unfoldable pub kindAt : List ℕ → ℕ → ℕ
-kindAt bytes at = numberOf (take 2 (drop (at + 4) bytes))
+kindAt bytes at = numberIn (take 2 (drop (at + 4) bytes))
 
 -- a section's frame: length and kind stand there, and whole entries of that length follow
 unfoldable pub framed : List ℕ → ℕ → Kind → Bool

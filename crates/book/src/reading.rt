@@ -10,7 +10,7 @@ ghost use Prim.Native.Nat.{_≤_, _<_, _+_};
 ghost use lib.ListN.{length, take, drop};
 ghost use Rattle.book.specs.Book.{entryCode, isBefore, ascend, entriesAt, Opened, nowhere, shut};
 ghost use Rattle.record.specs.Ordering.{order};
-ghost use Rattle.book.specs.Reading.{numberOf, flags, lost, begun, bound, ended, framed, soundIn, Readable, Kinded, Framed, sectionAt, sectionAfter};
+ghost use Rattle.book.specs.Reading.{sizeAt, kindAt, flags, lost, begun, bound, ended, framed, soundIn, Readable, Kinded, Framed, sectionAt, sectionAfter};
 
 // The kinds of document 01: number, bytes of a code, bytes of an entry.
 const SYSTEMS: Kind = Kind {
@@ -62,31 +62,23 @@ struct Found {
     next: usize,
 }
 
-// The number of a byte.
-fn wide(x: u8) -> usize
-    ensures { λ r. ⌜ (r ≡ x) × (r < 256) ⌝ }
-{
-    x as usize
-}
-
-// The number of two little-endian bytes.
-fn two(book: &[u8], at: usize) -> usize
-    requires { ⌜ at + 2 ≤ length (now book) ⌝ }
-    ensures { λ r. ⌜ (r ≡ numberOf (take 2 (drop at (now (book .entry))))) × (r < 65536) ⌝ }
-{
-    let low = wide(book[at]);
-    let high = wide(book[at + 1]);
-    low + high * 256
-}
-
-// The number of four little-endian bytes.
-fn four(book: &[u8], at: usize) -> usize
+// The length that a section at `at` begins with: four bytes.
+fn size_at(book: &[u8], at: usize) -> usize
     requires { ⌜ at + 4 ≤ length (now book) ⌝ }
-    ensures { λ r. ⌜ (r ≡ numberOf (take 4 (drop at (now (book .entry))))) × (r < 4294967296) ⌝ }
+    ensures { λ r. ⌜ (r ≡ sizeAt (now (book .entry)) at) × (r < 4294967296) ⌝ }
 {
-    let low = two(book, at);
-    let high = two(book, at + 2);
-    low + high * 65536
+    let end = at + 4;
+    numbers::read(&book[at..end]) as usize
+}
+
+// The kind of a section at `at`: two bytes behind its length.
+fn kind_at(book: &[u8], at: usize) -> usize
+    requires { ⌜ at + 6 ≤ length (now book) ⌝ }
+    ensures { λ r. ⌜ r ≡ kindAt (now (book .entry)) at ⌝ }
+{
+    let start = at + 4;
+    let end = at + 6;
+    numbers::read(&book[start..end]) as usize
 }
 
 // The frame of a section of the kind stands at `at`.
@@ -97,10 +89,10 @@ fn is_framed(book: &[u8], at: usize, kind: Kind) -> bool
     if book.len() < at + 6 {
         return false;
     }
-    if two(book, at + 4) != kind.number {
+    if kind_at(book, at) != kind.number {
         return false;
     }
-    let size = four(book, at);
+    let size = size_at(book, at);
     if size < 2 {
         return false;
     }
@@ -212,7 +204,7 @@ fn section_at(book: &[u8], at: usize, kind: Kind) -> Found
     ensures { λ r. ⌜ r ≡ sectionAt (now (book .entry)) at kind ⌝ }
 {
     if is_framed(book, at, kind) {
-        let size = four(book, at);
+        let size = size_at(book, at);
         let start = at + 6;
         let count = (size - 2) / kind.entry;
         let section = Section {

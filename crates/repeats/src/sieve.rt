@@ -5,6 +5,7 @@ use crate::Sort;
 use crate::walk::is_of;
 use crate::walk::is_repeated;
 use crate::walk::payment_id;
+use numbers::wide;
 ghost use mathlib.Core.Path.{_≡_};
 ghost use mathlib.Core.List.{[]};
 ghost use Prim.Native.Nat.{_+_, _*_, _/_, _<_, _≤_};
@@ -14,12 +15,6 @@ ghost use Rattle.repeats.specs.declared.Sort.the-variants.{Payments};
 ghost use Rattle.repeats.specs.Repeats.{firstRepeat};
 ghost use Rattle.repeats.specs.Places.{recordAt, Stands};
 ghost use Rattle.repeats.specs.Sieve.{idOf, wordOf, mixed, hashOf, marked, isMarked, hasMarks, withMarks, inClass, AllMarked, repeatsIn, Passed};
-
-fn wide(byte: u8) -> u64
-    ensures { λ r. ⌜ (r ≡ byte) × (r < 256) ⌝ }
-{
-    byte as u64
-}
 
 // Four bytes of an ID as one number.
 fn word(id: [u8; 20], i: usize) -> u64

@@ -1,4 +1,3 @@
-use Rattle.book.specs.Reading.{sizeAt, kindAt}
 use Rattle.book.proofs.Frames.{framed-short, framed-other, framed-small, framed-long, framed-is}
 use borrow.Author.Needs.{needs}
 use Rattle.book.proofs.reading.is_framed.Statement.{statement}
@@ -10,21 +9,16 @@ add-if1 c = search needs
 returns : tie.Need-returns
 returns c = search (needs, framed-short)
 
-add-two : tie.Need-add-two
-add-two c = search needs
-
-two-requires : tie.Need-two-requires
-two-requires c κs = search needs
+kind-at-requires : tie.Need-kind-at-requires
+kind-at-requires c κs = search needs
 
 returns-2 : tie.Need-returns-2
-unfolding kindAt
 returns-2 c = search (needs, framed-other)
 
-four-requires : tie.Need-four-requires
-four-requires c κs = search needs
+size-at-requires : tie.Need-size-at-requires
+size-at-requires c κs = search needs
 
 returns-3 : tie.Need-returns-3
-unfolding sizeAt kindAt
 returns-3 c = search (needs, framed-small)
 
 add-if4 : tie.Need-add-if4
@@ -34,14 +28,12 @@ add-if4-2 : tie.Need-add-if4-2
 add-if4-2 c = search needs
 
 returns-4 : tie.Need-returns-4
-unfolding sizeAt kindAt
 returns-4 c = search (needs, framed-long)
 
 rem-result : tie.Need-rem-result
 rem-result c = search needs
 
 returns-5 : tie.Need-returns-5
-unfolding sizeAt kindAt
 returns-5 c = search (needs, framed-is)
 
 pub is-framed-spec : {M : Type 1} → statement M
@@ -50,10 +42,9 @@ is-framed-spec =
     (tie.spec
     add-if1
     returns
-    add-two
-    two-requires
+    kind-at-requires
     returns-2
-    four-requires
+    size-at-requires
     returns-3
     add-if4
     add-if4-2

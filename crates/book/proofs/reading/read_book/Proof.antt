@@ -1,6 +1,6 @@
 use Prim.Native.Nat.{zero-le}
 use native.Mathlib.Omega.{arith}
-use Rattle.book.proofs.Entries.{bytes-all}
+use Rattle.numbers.proofs.Laws.{bytes-all}
 use Rattle.book.proofs.Chains.{book-found, book-lost, too-long}
 use borrow.Author.Needs.{needs}
 use Rattle.book.proofs.reading.read_book.Statement.{statement}

@@ -1,5 +1,4 @@
 use native.Mathlib.Omega.{arith}
-use Rattle.book.specs.Reading.{sizeAt}
 use Rattle.book.proofs.Frames.{frame-of, in-frame, no-frame, no-section, a-section}
 use borrow.Author.Needs.{needs}
 use Rattle.book.proofs.reading.section_at.Statement.{statement}
@@ -8,22 +7,20 @@ use Rattle.book.proofs.reading.section_at.Tie as tie
 is-framed-requires : tie.Need-is-framed-requires
 is-framed-requires c κs = search needs
 
-four-requires : tie.Need-four-requires
-four-requires c κs = omega (arith, frame-of _ _ _ _ (c .before .is-framed .ensures) (c .if1 .taken) .head)
+size-at-requires : tie.Need-size-at-requires
+size-at-requires c κs = omega (arith, frame-of _ _ _ _ (c .before .is-framed .ensures) (c .if1 .taken) .head)
 
 add-start : tie.Need-add-start
 add-start c = search needs
 
 sub-count : tie.Need-sub-count
-unfolding sizeAt
-sub-count c = omega (arith, frame-of _ _ _ _ (c .before .before .is-framed .ensures) (c .before .if1 .taken) .least, c .four .ensures .0)
+sub-count c = omega (arith, frame-of _ _ _ _ (c .before .before .is-framed .ensures) (c .before .if1 .taken) .least, c .size-at .ensures .0)
 
 div-count : tie.Need-div-count
 div-count c = search needs
 
 is-sound-requires : tie.Need-is-sound-requires
-unfolding sizeAt
-is-sound-requires c κs = record { within = in-frame _ _ _ _ (c .before .before .before .is-framed .ensures) (c .before .before .if1 .taken) _ (c .before .four .ensures .0); whole = search needs; flag = search needs }
+is-sound-requires c κs = record { within = in-frame _ _ _ _ (c .before .before .before .is-framed .ensures) (c .before .before .if1 .taken) _ (c .before .size-at .ensures .0); whole = search needs; flag = search needs }
 
 add-next : tie.Need-add-next
 add-next c = search needs
@@ -32,14 +29,12 @@ add-next-2 : tie.Need-add-next-2
 add-next-2 c = search needs
 
 returns : tie.Need-returns
-unfolding sizeAt
 returns c = search (needs, a-section)
 
 lose-requires : tie.Need-lose-requires
 lose-requires c κs = search needs
 
 returns-2 : tie.Need-returns-2
-unfolding sizeAt
 returns-2 c = search (needs, no-section)
 
 lose-requires-2 : tie.Need-lose-requires-2
@@ -53,7 +48,7 @@ section-at-spec =
     tie.close
     (tie.spec
     is-framed-requires
-    four-requires
+    size-at-requires
     add-start
     sub-count
     div-count

@@ -1,0 +1,4 @@
+pub mod Laws
+mod Reading
+pub mod Writing
+pub mod Unique
