@@ -13,12 +13,13 @@ use Rattle.book.specs.Book.Opened.{sound}
 use Rattle.book.proofs.Chains.{usable}
 use Rattle.nesting.specs.Division.{Division, DivisionOf}
 use Rattle.nesting.specs.Records.{records, Cuttable}
+use Rattle.report.specs.Rows.{roomFor}
 use Rattle.verdict.specs.declared.Verdict.{Verdict}
 use Rattle.verdict.specs.Answer.{Reason, numberOf, Applies, refusal, acceptance, Judgement}
 use Rattle.verdict.specs.Answer.Reason.{Ragged, TooLong, ReportShort}
 use Rattle.verdict.specs.Answer.Judgement.{refused, accepted}
 use Rattle.verdict.proofs.Numbers.{some-number}
-use Rattle.rows.specs.Report.{Writable, Written, reported}
+use Rattle.rows.specs.Report.{headOf, Writable, Written, reported}
 use Rattle.judge.specs.Judged.{rowsOf, Judged}
 
 -- a refusal is never 0
@@ -40,10 +41,10 @@ module _ (file book : List ℕ) where
         few true e = absurd (none TooLong (ltb-true _ _ e))
         few false e = ltb-false _ _ e
 
-    enough : (c : Contents) → Lists book c → (d : Division) → DivisionOf (records file) d → 64 * (1 + length (d .batches)) ≤ room
-    enough c l d h = go (ltb room (64 * (1 + length (d .batches)))) refl
+    enough : (c : Contents) → Lists book c → (d : Division) → DivisionOf (records file) d → roomFor (length (d .batches)) ≤ room
+    enough c l d h = go (ltb room (roomFor (length (d .batches)))) refl
       where
-        go : (t : Bool) → ltb room (64 * (1 + length (d .batches))) ≡ t → 64 * (1 + length (d .batches)) ≤ room
+        go : (t : Bool) → ltb room (roomFor (length (d .batches))) ≡ t → roomFor (length (d .batches)) ≤ room
         go true e = absurd (none ReportShort (record { contents = c; lists = l; division = d; divided = h; holds = ltb-true _ _ e }))
         go false e = ltb-false _ _ e
 
@@ -66,7 +67,7 @@ module _ (file book : List ℕ) where
     unfolding acceptance placed
     ready-usable = rw (r .is) (usable book (placed (r .contents)) (sound (r .contents) (r .lists)) refl)
 
-    pub ready-writable : Writable file (v .batches) report
+    pub ready-writable : Writable file (v .payments) (v .total) (v .batches) report
     unfolding acceptance
     ready-writable =
         rw (r .is)
@@ -74,18 +75,20 @@ module _ (file book : List ℕ) where
           cuttable = cuttable (length report) (r .none);
           division = r .division;
           divided = r .divided;
+          paid = refl;
+          summed = refl;
           count = refl;
           room = enough (length report) (r .none) (r .contents) (r .lists) (r .division) (r .divided);
         })
 
     -- the rows that were written are the promised ones
-    pub ready-judged : (after : List ℕ) → Written book (v .shelves) file (v .payments) (v .total) report after → Judged file book report 0 after
+    pub ready-judged : (after : List ℕ) → Written book (v .shelves) file report after → Judged file book report 0 after
     unfolding acceptance rowsOf
     ready-judged after w =
-        let e : after ≡ reported report (rowsOf book (r .contents) (r .division)) = go (r .is) in
+        let e : after ≡ reported report (headOf (r .division)) (rowsOf book (r .contents) (r .division)) = go (r .is) in
         rw e (Judged.accepted (r .none) (r .contents) (r .lists) (r .division) (r .divided))
       where
-        go : v ≡ acceptance (r .contents) (r .division) → after ≡ reported report (rowsOf book (r .contents) (r .division))
+        go : v ≡ acceptance (r .contents) (r .division) → after ≡ reported report (headOf (r .division)) (rowsOf book (r .contents) (r .division))
         go e = w (r .division) (r .divided) ∙ rw e
 
   -- a refusal leaves the report as it was

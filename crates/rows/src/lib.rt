@@ -80,19 +80,20 @@ pub fn write_rows(
     batches: usize,
     report: &mut [u8],
 )
-    requires { ⌜ Usable (now book) shelves × Writable (now file) batches (now report) ⌝ }
-    ensures { λ r. ⌜ Written (now (book .entry)) shelves (now (file .entry)) payments total (now (report .entry)) (now (report .exit)) ⌝ }
+    requires { ⌜ Usable (now book) shelves × Writable (now file) payments total batches (now report) ⌝ }
+    ensures { λ r. ⌜ Written (now (book .entry)) shelves (now (file .entry)) (now (report .entry)) (now (report .exit)) ⌝ }
 {
     let records = file.len() / 850;
     let head = head_numbers(records, payments, total, batches);
     report::write_row(report, 0, head);
     let mut greatest: [u8; 14] = [0; 14];
     let mut place: usize = 1;
-    let mut written: usize = 1;
-    while written <= batches {
+    let mut written: usize = 0;
+    while written < batches {
         let judged = judge_next(file, book, shelves, place, greatest);
         let numbers = judged.numbers;
-        report::write_row(report, written, numbers);
+        let at = report::row_at(written);
+        report::write_row(report, at, numbers);
         greatest = judged.greatest;
         place = judged.place;
         written += 1;
