@@ -1,6 +1,6 @@
 -- What an accepted verdict says of the report: the rows have room, and the entry may write them.
 -- Assumes nothing.
-use mathlib.Core.Path.{_≡_, refl, _∙_}
+use mathlib.Core.Path.{_≡_, refl, ap, _∙_}
 use mathlib.Core.Bool.{Bool, true, false}
 use mathlib.Core.List.{List}
 use Prim.Native.Nat.{ℕ, _+_, _*_, _%_, _≤_}
@@ -8,18 +8,19 @@ use native.Mathlib.Omega.{arith}
 use lib.Dec.{eqb, ltb}
 use lib.ListN.{length}
 use borrow.Author.Tests.{eqb-true, eqb-false, ltb-true, ltb-false}
-use Rattle.book.specs.Book.{Contents, Lists, Usable, placed}
+use Rattle.book.specs.Book.{Contents, Lists, listedAt, Usable, placed}
 use Rattle.book.specs.Book.Opened.{sound}
-use Rattle.book.proofs.Chains.{usable}
+use Rattle.book.proofs.Chains.{usable, listed-there}
 use Rattle.nesting.specs.Division.{Division, DivisionOf}
 use Rattle.nesting.specs.Records.{records, Cuttable}
+use Rattle.report.specs.Rows.{roomFor}
 use Rattle.verdict.specs.declared.Verdict.{Verdict}
 use Rattle.verdict.specs.Answer.{Reason, numberOf, Applies, refusal, acceptance, Judgement}
 use Rattle.verdict.specs.Answer.Reason.{Ragged, TooLong, ReportShort}
 use Rattle.verdict.specs.Answer.Judgement.{refused, accepted}
 use Rattle.verdict.proofs.Numbers.{some-number}
-use Rattle.rows.specs.Report.{Writable, Written, reported}
-use Rattle.judge.specs.Judged.{rowsOf, Judged}
+use Rattle.rows.specs.Report.{headOf, Writable, Written, reported, rowsOf}
+use Rattle.judge.specs.Judged.{Judged}
 
 -- a refusal is never 0
 pub not-zero : (k : Reason) (m : ℕ) → numberOf k * 100000 + m ≡ 0 → ⊥
@@ -40,10 +41,10 @@ module _ (file book : List ℕ) where
         few true e = absurd (none TooLong (ltb-true _ _ e))
         few false e = ltb-false _ _ e
 
-    enough : (c : Contents) → Lists book c → (d : Division) → DivisionOf (records file) d → 64 * (1 + length (d .batches)) ≤ room
-    enough c l d h = go (ltb room (64 * (1 + length (d .batches)))) refl
+    enough : (c : Contents) → Lists book c → (d : Division) → DivisionOf (records file) d → roomFor (length (d .batches)) ≤ room
+    enough c l d h = go (ltb room (roomFor (length (d .batches)))) refl
       where
-        go : (t : Bool) → ltb room (64 * (1 + length (d .batches))) ≡ t → 64 * (1 + length (d .batches)) ≤ room
+        go : (t : Bool) → ltb room (roomFor (length (d .batches))) ≡ t → roomFor (length (d .batches)) ≤ room
         go true e = absurd (none ReportShort (record { contents = c; lists = l; division = d; divided = h; holds = ltb-true _ _ e }))
         go false e = ltb-false _ _ e
 
@@ -66,7 +67,7 @@ module _ (file book : List ℕ) where
     unfolding acceptance placed
     ready-usable = rw (r .is) (usable book (placed (r .contents)) (sound (r .contents) (r .lists)) refl)
 
-    pub ready-writable : Writable file (v .batches) report
+    pub ready-writable : Writable file (v .payments) (v .total) (v .batches) report
     unfolding acceptance
     ready-writable =
         rw (r .is)
@@ -74,19 +75,19 @@ module _ (file book : List ℕ) where
           cuttable = cuttable (length report) (r .none);
           division = r .division;
           divided = r .divided;
+          paid = refl;
+          summed = refl;
           count = refl;
           room = enough (length report) (r .none) (r .contents) (r .lists) (r .division) (r .divided);
         })
 
     -- the rows that were written are the promised ones
-    pub ready-judged : (after : List ℕ) → Written book (v .shelves) file (v .payments) (v .total) report after → Judged file book report 0 after
-    unfolding acceptance rowsOf
+    pub ready-judged : (after : List ℕ) → Written (listedAt book (v .shelves)) file report after → Judged file book report 0 after
+    unfolding acceptance
     ready-judged after w =
-        let e : after ≡ reported report (rowsOf book (r .contents) (r .division)) = go (r .is) in
+        let there : listedAt book (v .shelves) ≡ r .contents = ap (λ (u : Verdict). listedAt book (u .shelves)) (r .is) ∙ listed-there book (r .contents) (r .lists) in
+        let e = w (r .division) (r .divided) ∙ ap (λ (c : Contents). reported report (headOf (r .division)) (rowsOf c (r .division))) there in
         rw e (Judged.accepted (r .none) (r .contents) (r .lists) (r .division) (r .divided))
-      where
-        go : v ≡ acceptance (r .contents) (r .division) → after ≡ reported report (rowsOf book (r .contents) (r .division))
-        go e = w (r .division) (r .divided) ∙ rw e
 
   -- a refusal leaves the report as it was
   pub kept : (report : List ℕ) (v : Verdict) → Judgement file book (length report) v → (v .answer ≡ 0 → ⊥) → Judged file book report (v .answer) report

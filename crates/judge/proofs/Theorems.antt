@@ -1,13 +1,13 @@
 -- What the entry's promise comes to: refused for nesting exactly when no legal division exists; rejected batches count.
 -- Assumes nothing.
-use mathlib.Core.Path.{_≡_, refl}
+use mathlib.Core.Path.{_≡_, refl, sym, _∙_}
 use mathlib.Core.Bool.{Bool, true, false}
-use mathlib.Core.List.{List, [], _∷_}
+use mathlib.Core.List.{List, [], _∷_, _++_}
 use Prim.Native.Nat.{ℕ, _+_, _*_, _/_, _%_, _<_, _≤_}
 use native.Mathlib.Omega.{arith}
-use lib.Dec.{eqb, ltb}
+use lib.Dec.{eqb}
 use lib.ListN.{length, replicate, length-replicate}
-use borrow.Author.Tests.{eqb-true, eqb-false, ltb-true, ltb-false}
+use borrow.Author.Tests.{eqb-true, eqb-false}
 use Rattle.record.specs.Choice.{choose}
 use Rattle.record.specs.Value.{held}
 use Rattle.record.specs.Numeral.{numeral}
@@ -18,20 +18,25 @@ use Rattle.nesting.specs.Records.{records, Cuttable}
 use Rattle.nesting.specs.Promise.{RefusedAt}
 use Rattle.nesting.proofs.Cuts.{cut-length}
 use Rattle.characters.specs.Characters.{clean, firstUnclean}
-use Rattle.verdict.specs.Answer.{Reason, numberOf, totalCountRecords, totalCount, totalAmount, Applies, Names, Refused}
+use Rattle.record.specs.Fields.{totalCountRecords, totalCount, totalAmount}
+use Rattle.verdict.specs.Answer.{Reason, numberOf, stated, Applies, Names, NoneOf, Refused}
 use Rattle.verdict.proofs.Numbers.{one-reason}
+use Rattle.verdict.proofs.Theorems.{same-place}
 use Rattle.judge.specs.Judged.{Judged}
 use Rattle.judge.proofs.Ready.{not-zero}
 
+-- the reasons that are tested before two of them
+abbrev beforeTooLong : List Reason
+beforeTooLong = Reason.Empty ∷ Reason.Ragged ∷ []
+
+abbrev beforeNesting : List Reason
+beforeNesting = Reason.Empty ∷ Reason.Ragged ∷ Reason.TooLong ∷ Reason.BookUnsound ∷ []
+
 -- a reason that applies, and before which none does, is the one given
-module _ (file book : List ℕ) (room : ℕ) (j : Reason) (holds : Applies file book room j) (before : (i : Reason) → Applies file book room i → numberOf i < numberOf j → ⊥) where
+module _ (file book : List ℕ) (room : ℕ) (j : Reason) (earlier later : List Reason) (order : stated ≡ earlier ++ j ∷ later) (none : NoneOf file book room earlier)
+    (holds : Applies file book room j) where
   the-first : (k : Reason) (m : ℕ) → Refused file book room k m → k ≡ j
-  the-first k m r = go (ltb (numberOf k) (numberOf j)) (ltb (numberOf j) (numberOf k)) refl refl
-    where
-      go : (s t : Bool) → ltb (numberOf k) (numberOf j) ≡ s → ltb (numberOf j) (numberOf k) ≡ t → k ≡ j
-      go true t e f = absurd (before k (r .applies) (ltb-true _ _ e))
-      go false true e f = absurd (r .first j (ltb-true _ _ f) holds)
-      go false false e f = one-reason k j (omega (arith, ltb-false (numberOf k) (numberOf j) e, ltb-false (numberOf j) (numberOf k) f))
+  the-first k m r = same-place file book room (r .earlier) earlier (r .later) later k j (sym (r .order) ∙ order) (r .first) none (r .applies) holds
 
 -- the record named has a number of five digits
 choose-small : (t : Bool) (a b n : ℕ) → a ≤ n → b ≤ n → choose t a b ≤ n
@@ -89,25 +94,12 @@ module _ (file book : List ℕ) (w : Cuttable file) where
 
   -- and where none exists it is given, if there are records and the book is sound
   module _ (some : 1 ≤ length file) (c : Contents) (lists : Lists book c) (none : Divided (records file) → ⊥) where
-    later : (room : ℕ) (k : Reason) → Applies file book room k → numberOf k < 5 → ⊥
-    unfolding numberOf
-    later room Reason.Empty a h = omega arith
-    later room Reason.Ragged a h = a (w .whole)
-    later room Reason.TooLong a h = omega (arith, w .few)
-    later room Reason.BookUnsound a h = a c lists
-    later room Reason.Nesting a h = omega arith
-    later room Reason.ReportShort a h = omega arith
-    later room Reason.LowByte a h = omega arith
-    later room Reason.InputSystem a h = omega arith
-    later room Reason.Version a h = omega arith
-    later room Reason.TrailerDigits a h = omega arith
-    later room Reason.RecordCount a h = omega arith
-    later room Reason.PaymentCount a h = omega arith
-    later room Reason.TotalAmount a h = omega arith
+    before : (room : ℕ) → NoneOf file book room beforeNesting
+    before room = (λ a. omega arith, (λ a. a (w .whole), (λ a. omega (arith, a, w .few), (λ a. a c lists, tt))))
 
     pub undivided-refused : (report after : List ℕ) (answer : ℕ) → Judged file book report answer after → ForNesting answer
-    unfolding numberOf
-    undivided-refused report after answer (Judged.refused k m r) = told (length report) k m r (the-first file book (length report) Reason.Nesting none (later (length report)) k m r)
+    unfolding stated
+    undivided-refused report after answer (Judged.refused k m r) = told (length report) k m r (the-first file book (length report) Reason.Nesting beforeNesting _ refl (before (length report)) none k m r)
     undivided-refused report after answer (Judged.accepted n x l d g) = absurd (none (d, g))
 
 -- an accepted file's trailer has the numbers of all its batches, whatever their rows say: rejected batches count in 11 to 13
@@ -136,25 +128,12 @@ accepted-counts file book report after answer (Judged.accepted n c l x g) z d h 
 -- a file of whole records that is longer than 65,535 of them is answered 3, whatever the book and the report; and there is one, so that no
 -- answer is without an input (the program `examples` has inputs for the others)
 module _ (file book : List ℕ) (whole : length file % 850 ≡ 0) (long : 65535 * 850 < length file) where
-  sooner : (room : ℕ) (j : Reason) → Applies file book room j → numberOf j < 3 → ⊥
-  unfolding numberOf
-  sooner room Reason.Empty a h = omega arith
-  sooner room Reason.Ragged a h = a whole
-  sooner room Reason.TooLong a h = omega arith
-  sooner room Reason.BookUnsound a h = omega arith
-  sooner room Reason.Nesting a h = omega arith
-  sooner room Reason.ReportShort a h = omega arith
-  sooner room Reason.LowByte a h = omega arith
-  sooner room Reason.InputSystem a h = omega arith
-  sooner room Reason.Version a h = omega arith
-  sooner room Reason.TrailerDigits a h = omega arith
-  sooner room Reason.RecordCount a h = omega arith
-  sooner room Reason.PaymentCount a h = omega arith
-  sooner room Reason.TotalAmount a h = omega arith
+  sooner : (room : ℕ) → NoneOf file book room beforeTooLong
+  sooner room = (λ a. omega arith, (λ a. a whole, tt))
 
   pub too-long-refused : (report after : List ℕ) (answer : ℕ) → Judged file book report answer after → answer ≡ 300000
-  unfolding numberOf
-  too-long-refused report after answer (Judged.refused k m r) = go (the-first file book (length report) Reason.TooLong long (sooner (length report)) k m r) (r .names)
+  unfolding numberOf stated
+  too-long-refused report after answer (Judged.refused k m r) = go (the-first file book (length report) Reason.TooLong beforeTooLong _ refl (sooner (length report)) long k m r) (r .names)
     where
       go : k ≡ Reason.TooLong → Names file book (length report) k m → numberOf k * 100000 + m ≡ 300000
       go q n = let z : m ≡ 0 = rw q at n in rw q (omega (arith, z))

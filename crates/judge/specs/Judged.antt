@@ -1,21 +1,15 @@
--- What the entry promises: the first reason that applies and the report as it was, or 0 and the rows of the file's division (01 File answers, Report).
+-- What the entry promises: the first reason that applies and the report as it was, or 0 and the head and the rows of the file's division (01 File answers, Report).
 use Prim.Native.Nat.{ℕ, _+_, _*_}
 use mathlib.Core.List.{List}
 use lib.ListN.{length}
-use Rattle.money.specs.Money.{split}
-use Rattle.book.specs.Book.{Contents, Lists, placed}
-use Rattle.nesting.specs.Division.{Division, DivisionOf, paymentCount}
-use Rattle.nesting.specs.Paid.{paidByAll}
+use Rattle.book.specs.Book.{Contents, Lists}
+use Rattle.nesting.specs.Division.{Division, DivisionOf}
 use Rattle.nesting.specs.Records.{records}
 use Rattle.verdict.specs.Answer.{Reason, numberOf, Applies, Refused}
-use Rattle.rows.specs.Report.{reportRows, reported}
-
--- the rows of a file's division, with a book that lists c
-unfoldable pub rowsOf : List ℕ → Contents → Division → List (List ℕ)
-rowsOf book c d = reportRows book (placed c) (paymentCount (d .batches)) (split (paidByAll (d .batches))) d
+use Rattle.rows.specs.Report.{headOf, rowsOf, reported}
 
 -- the number returned and the report afterwards
 pub data Judged (file book report : List ℕ) : ℕ → List ℕ → Type 0 where
   refused : (k : Reason) (m : ℕ) → Refused file book (length report) k m → Judged file book report (numberOf k * 100000 + m) report
   accepted : ((j : Reason) → Applies file book (length report) j → ⊥) → (c : Contents) → Lists book c → (d : Division) → DivisionOf (records file) d
-      → Judged file book report 0 (reported report (rowsOf book c d))
+      → Judged file book report 0 (reported report (headOf d) (rowsOf c d))

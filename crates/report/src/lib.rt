@@ -1,21 +1,23 @@
-// Rows of the report (01 Report).
+// Rows of the report, and where they stand (01 Report).
 ghost use mathlib.Core.Path.{_≡_};
-ghost use Prim.Native.Nat.{_+_, _*_, _<_, _≤_};
+ghost use Prim.Native.Nat.{_+_, _<_, _≤_};
 ghost use lib.ListN.{length};
-ghost use Rattle.report.specs.Rows.{eightBytes, rowBytes, placed};
+ghost use Rattle.report.specs.Rows.{rowBytes, rowAt, roomFor, over};
 
-// Fills the part with a number's bytes, the least first (01 Report).
-fn write_number(part: &mut [u8], number: u64)
-    requires { ⌜ length (now part) ≡ 8 ⌝ }
-    ensures { λ r. ⌜ now (part .exit) ≡ eightBytes number ⌝ }
+// Where a batch's row begins, the batches counted from 0 (01 Report).
+pub fn row_at(place: usize) -> usize
+    requires { ⌜ place < 65536 ⌝ }
+    ensures { λ r. ⌜ r ≡ rowAt place ⌝ }
 {
-    let mut left = number;
-    let mut i: usize = 0;
-    while i < 8 {
-        part[i] = (left % 256) as u8;
-        left = left / 256;
-        i += 1;
-    }
+    64 + place * 64
+}
+
+// The room that the head and the rows of so many batches need (01 File answers, 6).
+pub fn room_for(batches: usize) -> usize
+    requires { ⌜ batches < 65536 ⌝ }
+    ensures { λ r. ⌜ r ≡ roomFor batches ⌝ }
+{
+    row_at(batches)
 }
 
 // Fills the part with a row's numbers, one after the other (01 Report).
@@ -27,17 +29,16 @@ fn write_numbers(part: &mut [u8], row: [u64; 8])
     while k < 8 {
         let at = k * 8;
         let end = at + 8;
-        write_number(&mut part[at..end], row[k]);
+        numbers::write(&mut part[at..end], row[k]);
         k += 1;
     }
 }
 
-// Writes a row's eight numbers at its place, counted from 0 (01 Report). No other byte is touched.
-pub fn write_row(report: &mut [u8], place: usize, row: [u64; 8])
-    requires { ⌜ (place * 64 + 64 ≤ length (now report)) × (place < 65536) ⌝ }
-    ensures { λ r. ⌜ now (report .exit) ≡ placed (now (report .entry)) place row ⌝ }
+// Writes a row's eight numbers at a place of the report (01 Report). No other byte is touched.
+pub fn write_row(report: &mut [u8], at: usize, row: [u64; 8])
+    requires { ⌜ at + 64 ≤ length (now report) ⌝ }
+    ensures { λ r. ⌜ now (report .exit) ≡ over (now (report .entry)) at (rowBytes row) ⌝ }
 {
-    let at = place * 64;
     let end = at + 64;
     write_numbers(&mut report[at..end], row);
 }

@@ -5,7 +5,7 @@ use mathlib.Core.List.{List}
 use Prim.Native.Nat.{ℕ, _+_, _*_, _/_, _%_, _<_, _≤_}
 use native.Mathlib.Omega.{arith}
 use lib.ListN.{length, length-take, length-drop}
-use Rattle.book.specs.declared.Book.{Book}
+use Rattle.book.specs.Book.{Contents}
 use Rattle.nesting.specs.Division.{Batch, batchLines}
 use Rattle.nesting.specs.Records.{cut}
 use Rattle.repeats.specs.declared.Sort.the-variants.{Batches}
@@ -62,11 +62,11 @@ module _ {f : List ℕ} {place : ℕ} {g : List ℕ} (s : Opens f place g) where
     ends-judgeable = judgeable (s .cuttable) (s .stands) (ended (s .stands))
 
     -- what was found of it is what was asked
-    pub is-judged : (bytes : List ℕ) (book : Book) (look : Look) → look ≡ looked f place g → (row : Row) → IsRow bytes book (look .repeats) (place + 1) (partOf f place n) row
-        → (ns : List ℕ) → ns ≡ batchRow row → IsJudged bytes book f place g (record { numbers = ns; greatest = look .greatest; place = place + n })
+    pub is-judged : (book : Contents) (look : Look) → look ≡ looked f place g → (row : Row) → IsRow book (look .repeats) (place + 1) (partOf f place n) row
+        → (ns : List ℕ) → ns ≡ batchRow row → IsJudged book f place g (record { numbers = ns; greatest = look .greatest; place = place + n })
     unfolding judged
-    is-judged bytes book look l row r ns q earlier b t =
+    is-judged book look l row r ns q earlier b t =
         let m = ended t in
         let k = l ∙ look-is (s .cuttable) t g in
-        let o : ns ≡ batchRow (rowOf bytes book (look .repeats) (place + 1) b) = q ∙ ap batchRow (r b (batch-of (s .cuttable) t m)) in
+        let o : ns ≡ batchRow (rowOf book (look .repeats) (place + 1) b) = q ∙ ap batchRow (r b (batch-of (s .cuttable) t m)) in
         rw (o, m, k)

@@ -1,27 +1,29 @@
--- The bytes of a report that has its first rows.
+-- The bytes of a report that has its head and its first rows.
 -- Assumes nothing.
-use mathlib.Core.Path.{_≡_, ap, _∙_}
-use mathlib.Core.List.{List, [], _∷_, _++_}
-use Prim.Native.Nat.{ℕ, _+_, _*_, _≤_}
+use mathlib.Core.Path.{_≡_, sym, ap, _∙_}
+use mathlib.Core.List.{List, [], _∷_, _++_, append-assoc}
+use Prim.Native.Nat.{ℕ, _+_, _≤_}
 use native.Mathlib.Omega.{arith}
-use lib.ListN.{length, drop, length-append, length-drop}
-use lib.Seq.{drop-drop}
-use Rattle.report.specs.Rows.{rowsBytes, placed}
-use Rattle.report.proofs.Rows.{Eights, rows-length, placed-next}
+use lib.ListN.{length, drop, length-append}
+use Rattle.report.specs.Rows.{rowBytes, rowsBytes, rowAt, roomFor, over}
+use Rattle.report.proofs.Rows.{Eights, rows-snoc, head-length, rows-end, room-end, over-more}
 use Rattle.rows.specs.Report.{reported}
 
--- a report keeps its length, and takes one row more
-pub reported-length : (before : List ℕ) (rows : List (List ℕ)) → Eights rows → 64 * length rows ≤ length before → length (reported before rows) ≡ length before
-unfolding reported
-reported-length before rows h k = simp (length-append, length-drop) (omega (arith, rows-length rows h))
+-- rows stand behind the head of the report `first`, and one more behind them
+pub rows-next : (first : List ℕ) (rows : List (List ℕ)) (row : List ℕ) → Eights rows → rowAt 0 ≤ length first
+    → over (over first (rowAt 0) (rowsBytes rows)) (rowAt (length rows)) (rowBytes row) ≡ over first (rowAt 0) (rowsBytes (rows ++ row ∷ []))
+rows-next first rows row h k = rw (← rows-end rows h, rows-snoc rows row) (over-more first (rowAt 0) (rowsBytes rows) (rowBytes row) k)
 
-pub reported-next : (before : List ℕ) (rows : List (List ℕ)) (row : List ℕ) → Eights rows → length row ≡ 8 → 64 * length rows + 64 ≤ length before
-    → placed (reported before rows) (length rows) row ≡ reported before (rows ++ row ∷ [])
-unfolding reported
-reported-next before rows row hs h k =
-    let e : 64 * length rows + 64 ≡ 64 * length (rows ++ row ∷ []) = rw length-append (omega arith) in
-    placed-next rows (drop (64 * length rows) before) row hs h (rw length-drop (omega arith))
-    ∙ ap (λ (xs : List ℕ). rowsBytes (rows ++ row ∷ []) ++ xs) (drop-drop 64 (64 * length rows) before ∙ ap (λ (n : ℕ). drop n before) e)
+-- a report with the head, and then with the rows, is the report of both
+pub reported-is : (before head : List ℕ) (rows : List (List ℕ)) → length head ≡ 8 → Eights rows
+    → over (over before 0 (rowBytes head)) (rowAt 0) (rowsBytes rows) ≡ reported before head rows
+unfolding reported over
+reported-is before head rows h hs =
+    let z : 0 + length (rowBytes head) ≡ rowAt 0 = omega (arith, head-length head h) in
+    let e : 0 + length (rowBytes head ++ rowsBytes rows) ≡ roomFor (length rows) = rw length-append (omega (arith, z, room-end rows hs)) in
+    let one : over (over before 0 (rowBytes head)) (rowAt 0) (rowsBytes rows) ≡ over before 0 (rowBytes head ++ rowsBytes rows) =
+    rw (← z) (over-more before 0 (rowBytes head) (rowsBytes rows) (omega arith)) in
+    one ∙ rw (e, append-assoc (rowBytes head) (rowsBytes rows) (drop (roomFor (length rows)) before))
 
 -- of eight numbers each
 pub eights-next : (rows : List (List ℕ)) (row : List ℕ) → Eights rows → length row ≡ 8 → Eights (rows ++ row ∷ [])

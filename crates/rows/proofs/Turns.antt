@@ -2,25 +2,25 @@
 -- Assumes nothing.
 use mathlib.Core.Path.{_≡_, refl, sym, ap, _∙_}
 use mathlib.Core.List.{List, [], _∷_, _++_, map, append-assoc, append-nil}
-use Prim.Native.Nat.{ℕ, _+_, _*_, _/_, _<_, _≤_}
+use Prim.Native.Nat.{ℕ, _+_, _/_, _<_, _≤_}
 use native.Mathlib.Omega.{arith}
 use lib.ListN.{length, length-append}
 use Rattle.money.specs.declared.Amount.{Amount}
-use Rattle.book.specs.declared.Book.{Book}
+use Rattle.book.specs.Book.{Contents}
 use Rattle.nesting.specs.Division.{Batch, Division, DivisionOf, batchLines, recordsBefore, lines}
 use Rattle.nesting.specs.Records.{records}
 use Rattle.nesting.proofs.Cuts.{cut-length}
 use Rattle.nesting.proofs.OneDivision.{one-division}
-use Rattle.report.specs.Rows.{rowsBytes, placed}
-use Rattle.report.proofs.Rows.{Eights}
+use Rattle.report.specs.Rows.{rowBytes, rowsBytes, rowAt, over}
+use Rattle.report.proofs.Rows.{Eights, row-length, rows-end, head-room, rows-room, row-room, over-none, over-length}
 use Rattle.repeats.specs.Repeats.{Topped}
 use Rattle.repeats.proofs.Looks.{topped-none}
 use Rattle.rows.specs.declared.Judged.{Judged}
-use Rattle.rows.specs.Report.{headRow, batchRow, scheduleOf, batchRows, reportRows, reported, Writable, Written}
+use Rattle.rows.specs.Report.{headRow, batchRow, scheduleOf, batchRows, headOf, rowsOf, reported, Writable, Written}
 use Rattle.rows.specs.Standing.{Stands, Opens, judged, IsJudged}
 use Rattle.rows.proofs.Places.{counted, topped-after}
 use Rattle.rows.proofs.Sizes.{place-next, batches-few}
-use Rattle.rows.proofs.Reported.{reported-length, reported-next, eights-next}
+use Rattle.rows.proofs.Reported.{rows-next, reported-is, eights-next}
 
 -- the first of batches, and none
 first-of : (bs : List Batch) → 1 ≤ length bs → (b : Batch) × (rest : List Batch) × (bs ≡ b ∷ rest)
@@ -31,9 +31,10 @@ none-left : (bs : List Batch) → length bs ≡ 0 → bs ≡ []
 none-left [] h = refl
 none-left (b ∷ bs) h = absurd (omega arith)
 
--- the rows of the earlier batches stand in the report after the head; those of the later ones are left
-pub record Going (bytes : List ℕ) (book : Book) (file : List ℕ) (payments : ℕ) (total : Amount) (batches : ℕ) (before report greatest : List ℕ) (place written : ℕ) : Type 0 where
-  pub writable : Writable file batches before
+-- the report `first` has the head; behind it the rows of the earlier batches stand in the report, and those of the later ones are left
+pub record Going (book : Contents) (file : List ℕ) (payments batches : ℕ) (first report greatest : List ℕ) (place written : ℕ) : Type 0 where
+  pub total : Amount
+  pub writable : Writable file payments total batches first
   pub earlier : List Batch
   pub later : List Batch
   pub whole : writable .division .batches ≡ earlier ++ later
@@ -42,36 +43,30 @@ pub record Going (bytes : List ℕ) (book : Book) (file : List ℕ) (payments : 
   pub rows : List (List ℕ)
   pub eights : Eights rows
   pub size : length rows ≡ written
-  pub turns : written ≡ length earlier + 1
-  pub stand : report ≡ reported before rows
-  pub decides : reportRows bytes book payments total (writable .division) ≡ rows ++ batchRows bytes book (place + 1) earlier later
+  pub turns : written ≡ length earlier
+  pub stand : report ≡ over first (rowAt 0) (rowsBytes rows)
+  pub decides : rowsOf book (writable .division) ≡ rows ++ batchRows book (place + 1) earlier later
 
-module _ {bytes : List ℕ} {book : Book} {file : List ℕ} {payments : ℕ} {total : Amount} {batches : ℕ} {before report greatest : List ℕ} {place written : ℕ}
-    (g : Going bytes book file payments total batches before report greatest place written) where
-  abbrev w : Writable file batches before
+module _ {book : Contents} {file : List ℕ} {payments batches : ℕ} {first report greatest : List ℕ} {place written : ℕ}
+    (g : Going book file payments batches first report greatest place written) where
+  abbrev w : Writable file payments (g .total) batches first
   w = g .writable
 
   -- each row more is a batch less
-  left : length (g .later) + written ≡ batches + 1
+  left : length (g .later) + written ≡ batches
   left =
       let l : length (w .division .batches) ≡ length (g .earlier) + length (g .later) = rw (g .whole) (length-append (g .earlier) (g .later)) in
       omega (arith, l, w .count, g .turns)
 
-  -- the report keeps its length
-  pub kept : length report ≡ length before
-  kept = rw (g .stand) (reported-length before (g .rows) (g .eights) (omega (arith, left, g .size, w .room)))
+  -- the rows lie within the report
+  within : rowAt 0 + length (rowsBytes (g .rows)) ≤ length first
+  within = rw (rows-end (g .rows) (g .eights), g .size) (rows-room written batches (length first) (omega (arith, left)) (w .room))
 
-  -- after the last batch
-  pub finished : batches < written → Written bytes book file payments total before report
-  unfolding batchRows
-  finished h d p =
-      let n : g .later ≡ [] = none-left (g .later) (omega (arith, left)) in
-      let k : reportRows bytes book payments total (w .division) ≡ g .rows =
-      g .decides ∙ ap (λ (bs : List Batch). g .rows ++ batchRows bytes book (place + 1) (g .earlier) bs) n ∙ append-nil (g .rows) in
-      g .stand ∙ ap (reported before) (sym k ∙ ap (reportRows bytes book payments total) (one-division (records file) (w .division) d (w .divided) p))
+  kept : length report ≡ length first
+  kept = rw (g .stand) (over-length first (rowAt 0) (rowsBytes (g .rows)) within)
 
   -- a batch is left
-  module _ (h : written ≤ batches) where
+  module _ (h : written < batches) where
     next : (b : Batch) × (later : List Batch) × (g .later ≡ b ∷ later)
     next = first-of (g .later) (omega (arith, left))
 
@@ -96,22 +91,24 @@ module _ {bytes : List ℕ} {book : Book} {file : List ℕ} {payments : ℕ} {to
     opens = record { cuttable = w .cuttable; earlier = g .earlier; batch = b; stands = stands; topped = g .topped }
 
     -- its row has room, and its place is small
-    pub row-room : written * 64 + 64 ≤ length report
-    row-room = omega (arith, kept, w .room)
+    pub row-fits : (at : ℕ) → at ≡ rowAt written → at + 64 ≤ length report
+    row-fits at e = rw (e, kept) (row-room written batches (length first) h (w .room))
 
     pub row-few : written < 65536
     row-few = omega (arith, counted (w .cuttable) stands, w .cuttable .few, batches-few (g .earlier), g .start, g .turns)
 
     -- after it
-    turned : (r : Judged) (after : List ℕ) → IsJudged bytes book file place greatest r → after ≡ placed report written (r .numbers)
-        → Going bytes book file payments total batches before after (r .greatest) (r .place) (written + 1)
+    pub turned : (r : Judged) (after : List ℕ) (at : ℕ) → IsJudged book file place greatest r → at ≡ rowAt written → after ≡ over report at (rowBytes (r .numbers))
+        → Going book file payments batches first after (r .greatest) (r .place) (written + 1)
     unfolding judged batchRows batchRow stands
-    turned r after j p =
-        let e : r ≡ judged bytes book place greatest (g .earlier) b = j (g .earlier) b stands in
+    turned r after at j q p =
+        let e : r ≡ judged book place greatest (g .earlier) b = j (g .earlier) b stands in
         let eight : length (r .numbers) ≡ 8 = ap (λ (q : Judged). length (q .numbers)) e in
         let z : r .place ≡ place + length (batchLines b) = ap (λ (q : Judged). q .place) e in
         let n : place + 1 + length (batchLines b) ≡ r .place + 1 = omega (arith, z) in
+        let i : at ≡ rowAt (length (g .rows)) = q ∙ ap rowAt (sym (g .size)) in
         record {
+          total = g .total;
           writable = w;
           earlier = g .earlier ++ b ∷ [];
           later = later;
@@ -122,72 +119,73 @@ module _ {bytes : List ℕ} {book : Book} {file : List ℕ} {payments : ℕ} {to
           eights = eights-next (g .rows) (r .numbers) (g .eights) eight;
           size = rw length-append (omega (arith, g .size));
           turns = rw length-append (omega (arith, g .turns));
-          stand =
-              p ∙ (λ i. placed (g .stand i) (sym (g .size) i) (r .numbers))
-              ∙ reported-next before (g .rows) (r .numbers) (g .eights) eight (omega (arith, g .size, w .room));
+          stand = p ∙ (λ k. over (g .stand k) (i k) (rowBytes (r .numbers))) ∙ rows-next first (g .rows) (r .numbers) (g .eights) (omega (arith, within));
           decides =
-              g .decides ∙ ap (λ (bs : List Batch). g .rows ++ batchRows bytes book (place + 1) (g .earlier) bs) (next .2)
-              ∙ (λ i. g .rows ++ sym e i .numbers ∷ batchRows bytes book (n i) (g .earlier ++ b ∷ []) later)
+              g .decides ∙ ap (λ (bs : List Batch). g .rows ++ batchRows book (place + 1) (g .earlier) bs) (next .2)
+              ∙ (λ i. g .rows ++ sym e i .numbers ∷ batchRows book (n i) (g .earlier ++ b ∷ []) later)
               ∙ sym (append-assoc (g .rows) (r .numbers ∷ []) _);
         }
 
--- the report has the head, and past it what it held
-pub record Headed (file : List ℕ) (payments : ℕ) (total : Amount) (batches : ℕ) (before report : List ℕ) : Type 0 where
-  pub writable : Writable file batches before
-  pub stand : report ≡ placed before 0 (headRow (length file / 850) payments total batches)
+-- the head is written, and what the file's division comes to is what it says
+module _ {file : List ℕ} {payments : ℕ} {total : Amount} {batches : ℕ} {before head first : List ℕ} (w : Writable file payments total batches before)
+    (e : head ≡ headRow (length file / 850) payments total batches) (p : first ≡ over before 0 (rowBytes head)) where
+  head-eight : length head ≡ 8
+  unfolding headRow
+  head-eight = ap length e
 
-pub headed : {file : List ℕ} {payments : ℕ} {total : Amount} {batches : ℕ} {before head report : List ℕ} → Writable file batches before
-    → head ≡ headRow (length file / 850) payments total batches → report ≡ placed before 0 head → Headed file payments total batches before report
-headed {before} w e p = record { writable = w; stand = p ∙ ap (placed before 0) e }
+  head-is : (d : Division) → DivisionOf (records file) d → head ≡ headOf d
+  unfolding headOf records
+  head-is d h =
+      let o : w .division ≡ d = one-division (records file) (w .division) d (w .divided) h in
+      let l : length file / 850 ≡ length (lines d) = sym (ap length (h .whole) ∙ cut-length 1 (length file / 850) file) in
+      e ∙ rw (l, ← w .paid, ← w .summed, ← w .count, o)
 
--- the head counts the division's records and batches
-head-is : (file : List ℕ) (payments : ℕ) (total : Amount) (batches : ℕ) (d : Division) → DivisionOf (records file) d → length (d .batches) ≡ batches
-    → headRow (length file / 850) payments total batches ≡ headRow (length (lines d)) payments total (length (d .batches))
-unfolding records
-head-is file payments total batches d h c =
-    let l : length file / 850 ≡ length (lines d) = sym (ap length (h .whole) ∙ cut-length 1 (length file / 850) file) in
-    λ i. headRow (l i) payments total (sym c i)
+  head-kept : length first ≡ length before
+  head-kept = rw p (over-length before 0 (rowBytes head) (rw (row-length head head-eight) (omega (arith, head-room batches (length before) (w .room)))))
 
--- before the first batch
-begun : (bytes : List ℕ) (book : Book) {file : List ℕ} {payments : ℕ} {total : Amount} {batches : ℕ} {before report : List ℕ} (greatest : List ℕ)
-    → Headed file payments total batches before report → Going bytes book file payments total batches before report greatest 1 1
-unfolding headRow reportRows reported rowsBytes
-begun bytes book {file} {payments} {total} {batches} {before} greatest h =
-    let w = h .writable in
-    let head = headRow (length file / 850) payments total batches in
-    record {
-      writable = w;
-      earlier = [];
-      later = w .division .batches;
-      whole = refl;
-      start = refl;
-      topped = topped-none greatest;
-      rows = head ∷ [];
-      eights = (refl, tt);
-      size = refl;
-      turns = refl;
-      stand = h .stand ∙ reported-next before [] head tt refl (omega (arith, w .room));
-      decides = ap (λ (row : List ℕ). row ∷ batchRows bytes book 2 [] (w .division .batches)) (sym (head-is file payments total batches (w .division) (w .divided) (w .count)));
-    }
+  -- before the first batch
+  pub begun : (book : Contents) (greatest : List ℕ) → Going book file payments batches first first greatest 1 0
+  unfolding rowsOf rowsBytes
+  begun book greatest =
+      record {
+        total = total;
+        writable =
+            record {
+              cuttable = w .cuttable;
+              division = w .division;
+              divided = w .divided;
+              paid = w .paid;
+              summed = w .summed;
+              count = w .count;
+              room = rw head-kept (w .room);
+            };
+        earlier = [];
+        later = w .division .batches;
+        whole = refl;
+        start = refl;
+        topped = topped-none greatest;
+        rows = [];
+        eights = tt;
+        size = refl;
+        turns = refl;
+        stand = sym (over-none first (rowAt 0));
+        decides = refl;
+      }
 
--- the loop knows the report with the head alone, `first`, and neither the total nor what the report held before: so it goes for any that
--- give `first`, and some do
-pub record Rowed (bytes : List ℕ) (book : Book) (file : List ℕ) (payments batches : ℕ) (first report greatest : List ℕ) (place written : ℕ) : Type 0 where
-  pub total : Amount
-  pub before : List ℕ
-  pub made : Headed file payments total batches before first
-  pub going : (sum : Amount) (held : List ℕ) → Headed file payments sum batches held first → Going bytes book file payments sum batches held report greatest place written
+  -- the report keeps its length
+  pub all-kept : {book : Contents} {report greatest : List ℕ} {place written : ℕ} → Going book file payments batches first report greatest place written
+      → length report ≡ length before
+  all-kept g = kept g ∙ head-kept
 
-pub rowed : (bytes : List ℕ) (book : Book) {file : List ℕ} {payments : ℕ} {total : Amount} {batches : ℕ} {before first : List ℕ} (greatest : List ℕ)
-    → Headed file payments total batches before first → Rowed bytes book file payments batches first first greatest 1 1
-rowed bytes book {total} {before} greatest h = record { total = total; before = before; made = h; going = λ sum held k. begun bytes book greatest k }
-
-module _ {bytes : List ℕ} {book : Book} {file : List ℕ} {payments batches : ℕ} {first report greatest : List ℕ} {place written : ℕ}
-    (r : Rowed bytes book file payments batches first report greatest place written) where
-  pub some-going : Going bytes book file payments (r .total) batches (r .before) report greatest place written
-  some-going = r .going (r .total) (r .before) (r .made)
-
-  pub rowed-next : written ≤ batches → (q : Judged) (after : List ℕ) → IsJudged bytes book file place greatest q → after ≡ placed report written (q .numbers)
-      → Rowed bytes book file payments batches first after (q .greatest) (q .place) (written + 1)
-  rowed-next l q after j p =
-      record { total = r .total; before = r .before; made = r .made; going = λ sum held k. turned (r .going sum held k) l q after j p }
+  -- after the last
+  pub finished : {book : Contents} {report greatest : List ℕ} {place written : ℕ} → Going book file payments batches first report greatest place written
+      → batches ≤ written → Written book file before report
+  unfolding batchRows
+  finished {book} {place} g h d q =
+      let n : g .later ≡ [] = none-left (g .later) (omega (arith, left g)) in
+      let k : rowsOf book (g .writable .division) ≡ g .rows =
+      g .decides ∙ ap (λ (bs : List Batch). g .rows ++ batchRows book (place + 1) (g .earlier) bs) n ∙ append-nil (g .rows) in
+      let o : g .writable .division ≡ d = one-division (records file) (g .writable .division) d (g .writable .divided) q in
+      let m : rowsOf book d ≡ g .rows = ap (rowsOf book) (sym o) ∙ k in
+      g .stand ∙ ap (λ (f : List ℕ). over f (rowAt 0) (rowsBytes (g .rows))) p ∙ reported-is before head (g .rows) head-eight (g .eights)
+      ∙ (λ i. reported before (head-is d q i) (sym m i))

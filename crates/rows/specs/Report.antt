@@ -1,15 +1,17 @@
 -- The report of an accepted file (01 Report): the head, a row for each batch in file order, and every byte past the last row as it was.
-use Prim.Native.Nat.{ℕ, _+_, _*_, _≤_}
+use Prim.Native.Nat.{ℕ, _+_, _≤_}
 use mathlib.Core.Path.{_≡_}
 use mathlib.Core.List.{List, [], _∷_, _++_, map}
 use lib.ListN.{length, drop}
+use Rattle.record.specs.Fields.{scheduleNumber}
 use Rattle.record.specs.Value.{held}
 use Rattle.money.specs.declared.Amount.{Amount}
-use Rattle.book.specs.declared.Book.{Book}
-use Rattle.nesting.specs.Division.{Batch, Division, DivisionOf, batchLines, lines}
+use Rattle.money.specs.Money.{split}
+use Rattle.book.specs.Book.{Contents}
+use Rattle.nesting.specs.Division.{Batch, Division, DivisionOf, batchLines, lines, paymentCount}
+use Rattle.nesting.specs.Paid.{paidByAll}
 use Rattle.nesting.specs.Records.{records, Cuttable}
-use Rattle.report.specs.Rows.{rowsBytes}
-use Rattle.record.specs.Fields.{scheduleNumber}
+use Rattle.report.specs.Rows.{rowBytes, rowsBytes, roomFor}
 use Rattle.repeats.specs.Repeats.{member}
 use Rattle.batch.specs.declared.Row.{Row}
 use Rattle.batch.specs.Batch.{rowOf}
@@ -27,31 +29,35 @@ batchRow r =
 abbrev pub scheduleOf : Batch → List ℕ
 scheduleOf b = held (b .header) scheduleNumber
 
--- the rows of batches in file order, after the earlier ones; the first has the header's number n
-unfoldable pub batchRows : List ℕ → Book → ℕ → List Batch → List Batch → List (List ℕ)
-batchRows bytes book n earlier [] = []
-batchRows bytes book n earlier (b ∷ bs) =
-    batchRow (rowOf bytes book (member (scheduleOf b) (map scheduleOf earlier)) n b)
-    ∷ batchRows bytes book (n + length (batchLines b)) (earlier ++ b ∷ []) bs
+-- the rows of batches in file order, after the earlier ones, with a book that lists this; the first has the header's number n
+unfoldable pub batchRows : Contents → ℕ → List Batch → List Batch → List (List ℕ)
+batchRows book n earlier [] = []
+batchRows book n earlier (b ∷ bs) =
+    batchRow (rowOf book (member (scheduleOf b) (map scheduleOf earlier)) n b)
+    ∷ batchRows book (n + length (batchLines b)) (earlier ++ b ∷ []) bs
 
--- all rows; FH is record 1
-unfoldable pub reportRows : List ℕ → Book → ℕ → Amount → Division → List (List ℕ)
-reportRows bytes book payments total d =
-    headRow (length (lines d)) payments total (length (d .batches)) ∷ batchRows bytes book 2 [] (d .batches)
+-- the head of a file's division: its records, its payments and what they come to, its batches
+unfoldable pub headOf : Division → List ℕ
+headOf d = headRow (length (lines d)) (paymentCount (d .batches)) (split (paidByAll (d .batches))) (length (d .batches))
 
--- the report afterwards: the rows from its start, then what it held
-unfoldable pub reported : List ℕ → List (List ℕ) → List ℕ
-reported before rows = rowsBytes rows ++ drop (64 * length rows) before
+-- the rows of its batches; FH is record 1
+unfoldable pub rowsOf : Contents → Division → List (List ℕ)
+rowsOf book d = batchRows book 2 [] (d .batches)
 
--- a file that nests, and a report that has room for its rows (01 File answers, 6)
-pub record Writable (file : List ℕ) (batches : ℕ) (report : List ℕ) : Type 0 where
+-- the report afterwards: the head, the rows, then what it held from there on
+unfoldable pub reported : List ℕ → List ℕ → List (List ℕ) → List ℕ
+reported before head rows = rowBytes head ++ (rowsBytes rows ++ drop (roomFor (length rows)) before)
+
+-- a file that nests, what its division comes to, and a report that has room for its rows (01 File answers, 6)
+pub record Writable (file : List ℕ) (payments : ℕ) (total : Amount) (batches : ℕ) (report : List ℕ) : Type 0 where
   pub cuttable : Cuttable file
   pub division : Division
   pub divided : DivisionOf (records file) division
+  pub paid : paymentCount (division .batches) ≡ payments
+  pub summed : split (paidByAll (division .batches)) ≡ total
   pub count : length (division .batches) ≡ batches
-  pub room : 64 * (1 + batches) ≤ length report
+  pub room : roomFor batches ≤ length report
 
--- the rows are those of the file's division
-abbrev pub Written : List ℕ → Book → List ℕ → ℕ → Amount → List ℕ → List ℕ → Type 0
-Written bytes book file payments total before after =
-    (d : Division) → DivisionOf (records file) d → after ≡ reported before (reportRows bytes book payments total d)
+-- the head and the rows are those of the file's division
+abbrev pub Written : Contents → List ℕ → List ℕ → List ℕ → Type 0
+Written book file before after = (d : Division) → DivisionOf (records file) d → after ≡ reported before (headOf d) (rowsOf book d)

@@ -3,7 +3,7 @@ use Prim.Native.Nat.{ℕ, _+_}
 use mathlib.Core.Path.{_≡_}
 use mathlib.Core.List.{List, _∷_, _++_, map}
 use lib.ListN.{length}
-use Rattle.book.specs.declared.Book.{Book}
+use Rattle.book.specs.Book.{Contents}
 use Rattle.nesting.specs.Division.{Batch, Division, DivisionOf, batchLines, recordsBefore}
 use Rattle.nesting.specs.Records.{records, Cuttable}
 use Rattle.repeats.specs.declared.Sort.the-variants.{Batches}
@@ -30,14 +30,14 @@ pub record Opens (file : List ℕ) (place : ℕ) (greatest : List ℕ) : Type 0 
   pub topped : Topped greatest (map scheduleOf earlier)
 
 -- the numbers of the batch's row, the greatest schedule number after it, the records up to its end
-unfoldable pub judged : List ℕ → Book → ℕ → List ℕ → List Batch → Batch → Judged
-judged bytes book place greatest earlier b =
+unfoldable pub judged : Contents → ℕ → List ℕ → List Batch → Batch → Judged
+judged book place greatest earlier b =
     record {
-      numbers = batchRow (rowOf bytes book (member (scheduleOf b) (map scheduleOf earlier)) (place + 1) b);
+      numbers = batchRow (rowOf book (member (scheduleOf b) (map scheduleOf earlier)) (place + 1) b);
       greatest = raised Batches (b .header) greatest;
       place = place + length (batchLines b);
     }
 
 -- they are those of the batch that stands there
-abbrev pub IsJudged : List ℕ → Book → List ℕ → ℕ → List ℕ → Judged → Type 0
-IsJudged bytes book file place greatest r = (earlier : List Batch) (b : Batch) → Stands file place earlier b → r ≡ judged bytes book place greatest earlier b
+abbrev pub IsJudged : Contents → List ℕ → ℕ → List ℕ → Judged → Type 0
+IsJudged book file place greatest r = (earlier : List Batch) (b : Batch) → Stands file place earlier b → r ≡ judged book place greatest earlier b

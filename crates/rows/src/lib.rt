@@ -5,7 +5,7 @@ use batch::Row;
 use book::Book;
 use money::Amount;
 ghost use mathlib.Core.Path.{_≡_};
-ghost use Rattle.book.specs.Book.{Usable};
+ghost use Rattle.book.specs.Book.{Usable, listedAt};
 ghost use Rattle.rows.specs.Report.{headRow, batchRow, Writable, Written};
 ghost use Rattle.rows.specs.Standing.{Opens, IsJudged};
 
@@ -53,7 +53,7 @@ fn batch_numbers(row: Row) -> [u64; 8]
 // Judges the batch that begins after so many records; no schedule number of an earlier batch stands after the greatest.
 fn judge_next(file: &[u8], book: &[u8], shelves: Book, place: usize, greatest: [u8; 14]) -> Judged
     requires { ⌜ Usable (now book) shelves × Opens (now file) place greatest ⌝ }
-    ensures { λ r. ⌜ IsJudged (now (book .entry)) shelves (now (file .entry)) place greatest r ⌝ }
+    ensures { λ r. ⌜ IsJudged (listedAt (now (book .entry)) shelves) (now (file .entry)) place greatest r ⌝ }
 {
     let first = place + 1;
     let at = place * 850;
@@ -82,19 +82,20 @@ pub fn write_rows(
     batches: usize,
     report: &mut [u8],
 )
-    requires { ⌜ Usable (now book) shelves × Writable (now file) batches (now report) ⌝ }
-    ensures { λ r. ⌜ Written (now (book .entry)) shelves (now (file .entry)) payments total (now (report .entry)) (now (report .exit)) ⌝ }
+    requires { ⌜ Usable (now book) shelves × Writable (now file) payments total batches (now report) ⌝ }
+    ensures { λ r. ⌜ Written (listedAt (now (book .entry)) shelves) (now (file .entry)) (now (report .entry)) (now (report .exit)) ⌝ }
 {
     let records = file.len() / 850;
     let head = head_numbers(records, payments, total, batches);
     report::write_row(report, 0, head);
     let mut greatest: [u8; 14] = [0; 14];
     let mut place: usize = 1;
-    let mut written: usize = 1;
-    while written <= batches {
+    let mut written: usize = 0;
+    while written < batches {
         let judged = judge_next(file, book, shelves, place, greatest);
         let numbers = judged.numbers;
-        report::write_row(report, written, numbers);
+        let at = report::row_at(written);
+        report::write_row(report, at, numbers);
         greatest = judged.greatest;
         place = judged.place;
         written += 1;

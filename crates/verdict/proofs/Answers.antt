@@ -2,8 +2,8 @@
 -- Assumes nothing.
 use mathlib.Core.Path.{_≡_, refl, sym, _∙_, ap, subst}
 use mathlib.Core.Bool.{true, false, true≢false}
-use mathlib.Core.List.{List}
-use Prim.Native.Nat.{ℕ, _+_, _/_}
+use mathlib.Core.List.{List, [], _∷_}
+use Prim.Native.Nat.{ℕ, _/_}
 use native.Mathlib.Omega.{arith}
 use lib.Dec.{eqb}
 use borrow.Author.Tests.{eqb-true, eqb-false}
@@ -13,8 +13,7 @@ use Rattle.record.specs.Value.{held}
 use Rattle.record.specs.Tests.{digits, alike}
 use Rattle.record.specs.Numeral.{numeral}
 use Rattle.record.proofs.Chain.{and-right}
-use Rattle.money.specs.declared.Amount.{Amount}
-use Rattle.money.specs.Money.{split, cents}
+use Rattle.money.specs.Money.{cents}
 use Rattle.book.specs.declared.Book.{Book}
 use Rattle.book.specs.Book.{Contents, Lists, placed, standing, past}
 use Rattle.book.proofs.Chains.{shelves, lists-one}
@@ -23,12 +22,14 @@ use Rattle.nesting.specs.Paid.{paidByAll}
 use Rattle.nesting.specs.Records.{records}
 use Rattle.nesting.proofs.OneDivision.{one-division}
 use Rattle.verdict.specs.declared.Verdict.{Verdict}
-use Rattle.verdict.specs.Answer.{numberOf, inputSystem, versionIdentifier, totalCountRecords, totalCount, totalAmount, version201, strange, numbered, Reason, acceptance, Of, Applies, Names, Judgement}
+use Rattle.record.specs.Fields.{inputSystem, versionIdentifier, totalCountRecords, totalCount, totalAmount}
+use Rattle.verdict.specs.Answer.{numberOf, stated, version201, strange, numbered, Reason, acceptance, Of, Applies, Names, Judgement}
 use Rattle.verdict.specs.Answer.Reason.{Empty, Ragged, TooLong, BookUnsound, Nesting, InputSystem, Version, TrailerDigits, RecordCount, PaymentCount, TotalAmount}
 use Rattle.verdict.specs.Answer.Judgement.{accepted}
-use Rattle.verdict.specs.Order.{strangeIn, headerReason, numberedIn, trailerReason, Known, Clear}
+use Rattle.verdict.specs.Order.{strangeIn, headerReason, numberedIn, trailerReason, fromTrailer, fromHeader, fromRoom, Known, Clear}
+use Rattle.verdict.proofs.Numbers.{among}
 use Rattle.verdict.proofs.Ends.{count-of, batches-few}
-use Rattle.verdict.proofs.Tests.{clear-start, clear-next, clear-all, Tested, where-holds, where-fails}
+use Rattle.verdict.proofs.Tests.{clear-start, clear-next, clear-of, Tested, where-holds, where-fails}
 use Rattle.verdict.proofs.Tests.Tested.{passed}
 
 -- where all are digits they are worth what they write
@@ -41,7 +42,7 @@ strange-in : (book : List ℕ) (c : Contents) → Lists book c → (s : Book) �
 unfolding strangeIn strange placed standing past
 strange-in book c l s e v = rw (e, shelves book c l .systems .entries)
 
-module _ (file book : List ℕ) (room : ℕ) (s : Book) (batches payments : ℕ) (total : Amount) (k : Known file book s batches payments total) where
+module _ (file book : List ℕ) (room : ℕ) (v : Verdict) (k : Known file book v) where
   abbrev c : Contents
   c = k .contents
 
@@ -57,9 +58,9 @@ module _ (file book : List ℕ) (room : ℕ) (s : Book) (batches payments : ℕ)
       subst (λ (x : Contents). P x d) (lists-one book (o .contents) c (o .lists) (k .lists))
       (subst (λ (x : Division). P (o .contents) x) (one-division (records file) (o .division) d (o .divided) (k .divided)) (o .holds))
 
-  -- answers 1 to 5 are behind
-  pub known-clear : Clear file book room 6
-  unfolding numberOf
+  -- the tests before the report's room are behind
+  pub known-clear : Clear file book room fromRoom
+  unfolding stated
   known-clear =
       clear-next file book room Nesting
       (clear-next file book room BookUnsound
@@ -71,49 +72,46 @@ module _ (file book : List ℕ) (room : ℕ) (s : Book) (batches payments : ℕ)
       (λ a. a c (k .lists)))
       (λ a. a (d, k .divided))
 
-  -- 8 and 9
-  pub header-tested : Clear file book room 8 → Tested file book room 10 1 (headerReason book (s .systems) (d .header))
-  unfolding headerReason numberOf
+  -- FH
+  pub header-tested : Clear file book room fromHeader → Tested file book room fromTrailer 1 (headerReason book (v .shelves .systems) (d .header))
+  unfolding headerReason numberOf acceptance
   header-tested e =
-      let v = held (d .header) inputSystem in
-      let same = strange-in book c (k .lists) s (k .opened) v in
-      where-holds file book room 10 1 InputSystem (strangeIn book (s .systems) v) _ e refl
+      let x = held (d .header) inputSystem in
+      let same = strange-in book c (k .lists) (v .shelves) (ap (λ (u : Verdict). u .shelves) (k .accepts)) x in
+      where-holds file book room InputSystem (strangeIn book (v .shelves .systems) x) _ e refl
       (λ t. of-these (λ c d. strange c (held (d .header) inputSystem) ≡ true) (sym same ∙ t))
       (λ f a. true≢false (sym (of-others _ a) ∙ sym same ∙ f)) (λ e.
-      where-fails file book room 10 1 Version (alike (held (d .header) versionIdentifier) version201) 0 e refl
+      where-fails file book room Version (alike (held (d .header) versionIdentifier) version201) 0 e refl
       (λ f. of-these (λ c d. alike (held (d .header) versionIdentifier) version201 ≡ false) f)
       (λ t a. true≢false (sym t ∙ of-others _ a)) (λ t e. passed e))
 
   -- a number of the division held against another: the reason applies where they differ
-  where-unequal : (n m : ℕ) (j : Reason) (X Y : Division → ℕ) (x y : ℕ) → x ≡ X d → y ≡ Y d
+  where-unequal : {left : List Reason} {m : ℕ} (j : Reason) {next : List Reason} (X Y : Division → ℕ) (x y : ℕ) → x ≡ X d → y ≡ Y d
       → (Of file book room (λ c e. X e ≡ Y e → ⊥) → Applies file book room j) → (Applies file book room j → Of file book room (λ c e. X e ≡ Y e → ⊥))
-      → (r : ℕ) → Clear file book room (numberOf j) → Names file book room j m
-      → (Clear file book room (1 + numberOf j) → Tested file book room n m r) → Tested file book room n m (choose (eqb x y) r (numberOf j))
-  where-unequal n m j X Y x y p q to from r e i rest =
+      → (r : ℕ) → Clear file book room (j ∷ next) → Names file book room j m
+      → (Clear file book room next → Tested file book room left m r) → Tested file book room left m (choose (eqb x y) r (numberOf j))
+  where-unequal j X Y x y p q to from r e i rest =
       let P : Contents → Division → Type 0 = λ c e. X e ≡ Y e → ⊥ in
-      where-fails file book room n m j (eqb x y) r e i (λ f. to (of-these P (λ u. eqb-false x y f (p ∙ u ∙ sym q))))
+      where-fails file book room j (eqb x y) r e i (λ f. to (of-these P (λ u. eqb-false x y f (p ∙ u ∙ sym q))))
       (λ t a. of-others P (from a) (sym p ∙ eqb-true x y t ∙ q)) (λ t e. rest e)
 
-  -- 10 to 13
-  pub trailer-tested : Clear file book room 10 → Tested file book room 14 (length file / 850) (trailerReason (length file / 850) payments (paidByAll (d .batches)) (d .trailer))
-  unfolding trailerReason numberedIn numbered numberOf
+  -- FT
+  pub trailer-tested : Clear file book room fromTrailer
+      → Tested file book room [] (length file / 850) (trailerReason (length file / 850) (v .payments) (paidByAll (d .batches)) (d .trailer))
+  unfolding trailerReason numberedIn numbered numberOf acceptance
   trailer-tested e =
-      let n = length file / 850 in
       let t = d .trailer in
-      let last : n ≡ length (records file) = sym (count-of file) in
-      let count : n ≡ length (lines d) = last ∙ ap length (sym (k .divided .whole)) in
-      where-fails file book room 14 n TrailerDigits (numberedIn t) _ e last
+      let last : length file / 850 ≡ length (records file) = sym (count-of file) in
+      let count : length file / 850 ≡ length (lines d) = last ∙ ap length (sym (k .divided .whole)) in
+      let paid : v .payments ≡ paymentCount (d .batches) = ap (λ (u : Verdict). u .payments) (k .accepts) in
+      where-fails file book room TrailerDigits (numberedIn t) _ e last
       (λ f. of-these (λ c e. numbered e ≡ false) f) (λ y a. true≢false (sym y ∙ of-others _ a)) (λ y e.
       let worth = digits-worth (held t totalAmount) (and-right (digits (held t totalCount)) _ (and-right (digits (held t totalCountRecords)) _ y)) in
-      where-unequal 14 n RecordCount (λ e. numeral (held (e .trailer) totalCountRecords)) (λ e. length (lines e)) _ _ refl count (λ a. a) (λ a. a) _ e last (λ e.
-      where-unequal 14 n PaymentCount (λ e. numeral (held (e .trailer) totalCount)) (λ e. paymentCount (e .batches)) _ _ refl (k .paid) (λ a. a) (λ a. a) _ e last (λ e.
-      where-unequal 14 n TotalAmount (λ e. numeral (held (e .trailer) totalAmount)) (λ e. paidByAll (e .batches)) _ _ worth refl (λ a. a) (λ a. a) 0 e last passed)))
+      where-unequal RecordCount (λ e. numeral (held (e .trailer) totalCountRecords)) (λ e. length (lines e)) _ _ refl count (λ a. a) (λ a. a) _ e last (λ e.
+      where-unequal PaymentCount (λ e. numeral (held (e .trailer) totalCount)) (λ e. paymentCount (e .batches)) _ _ refl paid (λ a. a) (λ a. a) _ e last (λ e.
+      where-unequal TotalAmount (λ e. numeral (held (e .trailer) totalAmount)) (λ e. paidByAll (e .batches)) _ _ worth refl (λ a. a) (λ a. a) 0 e last passed)))
 
-  -- nothing applies
-  pub accepted-as : Clear file book room 14
-      → Judgement file book room (record { answer = 0; shelves = s; batches = batches; payments = payments; total = split (paidByAll (d .batches)) })
-  unfolding acceptance
-  accepted-as e =
-      let v : record { answer = 0; shelves = s; batches = batches; payments = payments; total = split (paidByAll (d .batches)) } ≡ acceptance c d =
-      λ i. record { answer = 0; shelves = k .opened i; batches = k .batched i; payments = k .paid i; total = split (paidByAll (d .batches)) } in
-      subst (λ (x : Verdict). Judgement file book room x) (sym v) (accepted (clear-all file book room e) c (k .lists) d (k .divided))
+  -- nothing is left
+  pub accepted-as : Clear file book room [] → Judgement file book room v
+  unfolding among
+  accepted-as e = rw (k .accepts) (accepted (λ j. clear-of file book room e j refl) c (k .lists) d (k .divided))

@@ -15,7 +15,8 @@ use Rattle.money.specs.Money.{worth, split}
 use Rattle.money.proofs.Amounts.{worth-split}
 use Rattle.book.specs.declared.Section.{Section}
 use Rattle.nesting.specs.Division.{Record}
-use Rattle.verdict.specs.Answer.{numberOf, totalCountRecords, totalCount}
+use Rattle.record.specs.Fields.{totalCountRecords, totalCount}
+use Rattle.verdict.specs.Answer.{numberOf}
 use Rattle.verdict.specs.Order.{lengthReason, headerReason, numberedIn, trailerReason}
 
 -- no reason has a number above 13

@@ -1,8 +1,8 @@
--- The answers 1 to 5, and what they leave.
+-- The tests before the report's room, and what they leave.
 -- Assumes nothing.
-use mathlib.Core.Path.{_≡_, refl, sym}
+use mathlib.Core.Path.{_≡_, refl, sym, ap, _∙_}
 use mathlib.Core.Bool.{true, false, true≢false}
-use mathlib.Core.List.{List}
+use mathlib.Core.List.{List, _∷_}
 use Prim.Native.Nat.{ℕ, _≤_}
 use native.Mathlib.Omega.{arith}
 use lib.ListN.{length}
@@ -19,12 +19,12 @@ use Rattle.characters.specs.Characters.{firstUnclean}
 use Rattle.survey.specs.declared.Survey.{Survey}
 use Rattle.survey.specs.Survey.{Surveyed}
 use Rattle.verdict.specs.declared.Verdict.{Verdict}
-use Rattle.verdict.specs.Answer.{numberOf, refusal, Judgement}
+use Rattle.verdict.specs.Answer.{numberOf, refusal, acceptance, Judgement}
 use Rattle.verdict.specs.Answer.Reason.{BookUnsound, Nesting}
 use Rattle.verdict.specs.Answer.Judgement.{refused}
-use Rattle.verdict.specs.Order.{refusalBy, lengthReason, Known, Clear}
+use Rattle.verdict.specs.Order.{refusalBy, lengthReason, fromRoom, fromBook, Known, Clear}
 use Rattle.verdict.proofs.Ends.{count-of}
-use Rattle.verdict.proofs.Tests.{clear-next, given, Tested, clear-of, refused-by, lengths, cuttable}
+use Rattle.verdict.proofs.Tests.{clear-next, given, Tested, clear-by, refused-by, lengths, cuttable}
 
 -- what reading a book comes to
 no-contents : (book : List ℕ) (s : Book) → Opened book s → s .sound ≡ false → (c : Contents) → Lists book c → ⊥
@@ -61,39 +61,39 @@ nests file t (Surveyed.refused k r) b p e = absurd (true≢false (cc))
 
 -- any file and any book
 module _ (file book : List ℕ) (room u : ℕ) (e : u ≡ lengthReason (length file)) where
-  length-read : Tested file book room 4 0 u
+  length-read : Tested file book room fromBook 0 u
   length-read = rw e (lengths file book room)
 
   pub unfit : (u ≡ 0 → ⊥) → (v : Verdict) → v ≡ refusalBy u 0 → Judgement file book room v
-  unfit n v q = rw q (refused-by file book room 4 0 u length-read n)
+  unfit n v q = rw q (refused-by file book room length-read n)
 
   module _ (z : u ≡ 0) where
-    fit : Clear file book room 4
-    fit = clear-of file book room 4 0 u length-read z
+    fit : Clear file book room fromBook
+    fit = clear-by file book room length-read z
 
     pub fit-cuttable : Cuttable file
     fit-cuttable = cuttable file book room fit
 
-    pub bookless : (s : Book) → Opened book s → s .sound ≡ false → (v : Verdict) → v ≡ refusalBy 4 0 → Judgement file book room v
-    unfolding refusalBy refusal numberOf
+    pub bookless : (s : Book) → Opened book s → s .sound ≡ false → (v : Verdict) → v ≡ refusalBy (numberOf BookUnsound) 0 → Judgement file book room v
+    unfolding refusalBy refusal
     bookless s o n v q = rw q (refused BookUnsound 0 (given file book room BookUnsound 0 fit (no-contents book s o n) refl))
 
     module _ (s : Book) (o : Opened book s) (y : s .sound ≡ true) where
-      sound-clear : Clear file book room 5
-      unfolding numberOf
+      sound-clear : Clear file book room (Nesting ∷ fromRoom)
       sound-clear = let f = some-contents book s o y in clear-next file book room BookUnsound fit (λ n. n (f .contents) (f .lists))
 
       -- what the pass over the records found
       module _ (t : Survey) (g : Surveyed file t) where
-        pub unnested : (m : ℕ) → t .nested ≡ nested.Refused m → (v : Verdict) → v ≡ refusalBy 5 m → Judgement file book room v
-        unfolding refusalBy refusal numberOf
+        pub unnested : (m : ℕ) → t .nested ≡ nested.Refused m → (v : Verdict) → v ≡ refusalBy (numberOf Nesting) m → Judgement file book room v
+        unfolding refusalBy refusal
         unnested m e v q = let r = refused-at file t g m e in rw q (refused Nesting m (given file book room Nesting m sound-clear (r .none) r))
 
         pub named-small : (m : ℕ) → t .nested ≡ nested.Refused m → m ≤ 65536
         named-small m e = omega (arith, refused-at file t g m e .to, count-of file, fit-cuttable .few)
 
         module _ (b p : ℕ) (q : t .nested ≡ nested.Legal b p) where
-          pub divided : Known file book s b p (t .total)
+          pub divided : Known file book (record { answer = 0; shelves = s; batches = b; payments = p; total = t .total })
+          unfolding acceptance
           divided =
               let f = some-contents book s o y in
               let n = nests file t g b p q in
@@ -101,12 +101,9 @@ module _ (file book : List ℕ) (room u : ℕ) (e : u ≡ lengthReason (length f
                 cuttable = fit-cuttable;
                 contents = f .contents;
                 lists = f .lists;
-                opened = f .opened;
                 division = n .division;
                 divided = n .divided;
-                batched = n .batched;
-                paid = n .paid;
-                summed = n .summed;
+                accepts = λ i. record { answer = 0; shelves = f .opened i; batches = n .batched i; payments = n .paid i; total = n .summed i };
               }
 
           pub first-unclean : t .unclean ≡ firstUnclean 1 (records file)

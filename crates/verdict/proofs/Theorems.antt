@@ -1,12 +1,8 @@
 -- One verdict only, for the same file, book and room.
 -- Assumes nothing.
-use mathlib.Core.Path.{_≡_, refl, sym, _∙_, ap, subst}
-use mathlib.Core.Bool.{Bool, true, false}
-use mathlib.Core.List.{List}
-use Prim.Native.Nat.{ℕ, _≤_}
-use native.Mathlib.Omega.{arith}
-use lib.Dec.{ltb}
-use borrow.Author.Tests.{ltb-true, ltb-false}
+use mathlib.Core.Path.{_≡_, sym, _∙_, ap, subst}
+use mathlib.Core.List.{List, [], _∷_, _++_}
+use Prim.Native.Nat.{ℕ}
 use Rattle.book.proofs.Chains.{lists-one}
 use Rattle.nesting.specs.declared.Verdict.{Verdict as Nesting-Verdict}
 use Rattle.nesting.specs.declared.Verdict.the-variants as nested
@@ -15,10 +11,9 @@ use Rattle.nesting.specs.Promise.{Nested}
 use Rattle.nesting.proofs.OneDivision.{one-division}
 use Rattle.nesting.proofs.Theorems.{one-answer}
 use Rattle.verdict.specs.declared.Verdict.{Verdict}
-use Rattle.verdict.specs.Answer.{Reason, numberOf, refusal, Names, Refused, Judgement}
+use Rattle.verdict.specs.Answer.{Reason, refusal, Applies, Names, NoneOf, Refused, Judgement}
 use Rattle.verdict.specs.Answer.Reason.{Empty, Ragged, TooLong, BookUnsound, Nesting, ReportShort, LowByte, InputSystem, Version, TrailerDigits, RecordCount, PaymentCount, TotalAmount}
 use Rattle.verdict.specs.Answer.Judgement.{refused, accepted}
-use Rattle.verdict.proofs.Numbers.{one-reason}
 
 -- the record that a refusal of nesting names
 recordIn : Nesting-Verdict → ℕ
@@ -43,17 +38,17 @@ module _ (file book : List ℕ) (room : ℕ) where
   one-record PaymentCount m n p q = p ∙ sym q
   one-record TotalAmount m n p q = p ∙ sym q
 
-  -- of two refusals neither comes before the other
-  not-before : (k j : Reason) (m n : ℕ) → Refused file book room k m → Refused file book room j n → numberOf k ≤ numberOf j
-  not-before k j m n p q = go (ltb (numberOf j) (numberOf k)) refl
-    where
-      go : (b : Bool) → ltb (numberOf j) (numberOf k) ≡ b → numberOf k ≤ numberOf j
-      go true e = absurd (p .first j (ltb-true _ _ e) (q .applies))
-      go false e = ltb-false _ _ e
+  -- of two places in one order, before which nothing applies, the reasons are one
+  pub same-place : (is js xs ys : List Reason) (k j : Reason) → is ++ k ∷ xs ≡ js ++ j ∷ ys → NoneOf file book room is → NoneOf file book room js
+      → Applies file book room k → Applies file book room j → k ≡ j
+  same-place [] [] xs ys k j e m n p q = cc
+  same-place [] (b ∷ js) xs ys k j e m n p q = let s : k ≡ b = cc in absurd (n .0 (subst (λ (i : Reason). Applies file book room i) s p))
+  same-place (a ∷ is) [] xs ys k j e m n p q = let s : j ≡ a = cc in absurd (m .0 (subst (λ (i : Reason). Applies file book room i) s q))
+  same-place (a ∷ is) (b ∷ js) xs ys k j e m n p q = let s : is ++ k ∷ xs ≡ js ++ j ∷ ys = cc in same-place is js xs ys k j s (m .1) (n .1) p q
 
   one-refusal : (k j : Reason) (m n : ℕ) → Refused file book room k m → Refused file book room j n → refusal k m ≡ refusal j n
   one-refusal k j m n p q =
-      let e : k ≡ j = one-reason k j (omega (arith, not-before k j m n p q, not-before j k n m q p)) in
+      let e : k ≡ j = same-place (p .earlier) (q .earlier) (p .later) (q .later) k j (sym (p .order) ∙ q .order) (p .first) (q .first) (p .applies) (q .applies) in
       let s : m ≡ n = one-record j m n (subst (λ (i : Reason). Names file book room i m) e (p .names)) (q .names) in
       rw (e, s)
 

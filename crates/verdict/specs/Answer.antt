@@ -2,20 +2,21 @@
 use Prim.Native.Nat.{ℕ, _+_, _*_, _%_, _<_}
 use mathlib.Core.Path.{_≡_}
 use mathlib.Core.Bool.{Bool, true, false}
-use mathlib.Core.List.{List, [], _∷_}
+use mathlib.Core.List.{List, [], _∷_, _++_}
 use lib.ListN.{length}
-use Rattle.record.specs.declared.Field.{Field}
 use Rattle.record.specs.Choice.{_and_, _or_}
+use Rattle.record.specs.Fields.{inputSystem, versionIdentifier, totalCountRecords, totalCount, totalAmount}
 use Rattle.record.specs.Value.{held}
 use Rattle.record.specs.Tests.{blank, digits, alike}
 use Rattle.record.specs.Numeral.{numeral}
 use Rattle.money.specs.Money.{split}
 use Rattle.book.specs.Book.{Contents, Lists, entryFor, isNone, placed, shut}
-use Rattle.nesting.specs.Division.{Division, DivisionOf, Divided, lines, paymentCount}
+use Rattle.nesting.specs.Division.{All, Division, DivisionOf, Divided, lines, paymentCount}
 use Rattle.nesting.specs.Paid.{paidByAll}
 use Rattle.nesting.specs.Records.{records}
 use Rattle.nesting.specs.Promise.{RefusedAt}
 use Rattle.characters.specs.Characters.{firstUnclean}
+use Rattle.report.specs.Rows.{roomFor}
 use Rattle.verdict.specs.declared.Verdict.{Verdict}
 
 -- the reasons of a refusal
@@ -34,7 +35,7 @@ pub data Reason : Type 0 where
   PaymentCount : Reason
   TotalAmount : Reason
 
--- their numbers (01 File answers)
+-- their numbers, for the answer (01 File answers)
 unfoldable pub numberOf : Reason → ℕ
 numberOf Empty = 1
 numberOf Ragged = 2
@@ -50,21 +51,10 @@ numberOf RecordCount = 11
 numberOf PaymentCount = 12
 numberOf TotalAmount = 13
 
--- 004 fields 2, 3, 103, 104 and 105
-abbrev pub inputSystem : Field
-inputSystem = record { start = 3; width = 40 }
-
-abbrev pub versionIdentifier : Field
-versionIdentifier = record { start = 43; width = 3 }
-
-abbrev pub totalCountRecords : Field
-totalCountRecords = record { start = 3; width = 18 }
-
-abbrev pub totalCount : Field
-totalCount = record { start = 21; width = 18 }
-
-abbrev pub totalAmount : Field
-totalAmount = record { start = 39; width = 20 }
+-- the order in which they are tested (01 File answers)
+unfoldable pub stated : List Reason
+stated =
+    Empty ∷ Ragged ∷ TooLong ∷ BookUnsound ∷ Nesting ∷ ReportShort ∷ LowByte ∷ InputSystem ∷ Version ∷ TrailerDigits ∷ RecordCount ∷ PaymentCount ∷ TotalAmount ∷ []
 
 -- 201 (01 File answers, 9)
 abbrev pub version201 : List ℕ
@@ -109,7 +99,7 @@ module _ (file book : List ℕ) (room : ℕ) where
   Applies TooLong = 65535 * 850 < length file
   Applies BookUnsound = (c : Contents) → Lists book c → ⊥
   Applies Nesting = Divided (records file) → ⊥
-  Applies ReportShort = Of (λ c d. room < 64 * (1 + length (d .batches)))
+  Applies ReportShort = Of (λ c d. room < roomFor (length (d .batches)))
   Applies LowByte = firstUnclean 1 (records file) ≡ 0 → ⊥
   Applies InputSystem = Of (λ c d. strange c (held (d .header) inputSystem) ≡ true)
   Applies Version = Of (λ c d. alike (held (d .header) versionIdentifier) version201 ≡ false)
@@ -134,10 +124,17 @@ module _ (file book : List ℕ) (room : ℕ) where
   Names PaymentCount m = m ≡ length (records file)
   Names TotalAmount m = m ≡ length (records file)
 
-  -- tested in this order; the first that applies is given, and only when it applies
+  -- none of these applies
+  abbrev pub NoneOf : List Reason → Type 0
+  NoneOf js = All (λ j. Applies j → ⊥) js
+
+  -- the first that applies in the stated order is given, and only when it applies
   pub record Refused (k : Reason) (m : ℕ) : Type 0 where
     pub applies : Applies k
-    pub first : (j : Reason) → numberOf j < numberOf k → Applies j → ⊥
+    pub earlier : List Reason
+    pub later : List Reason
+    pub order : stated ≡ earlier ++ k ∷ later
+    pub first : NoneOf earlier
     pub names : Names k m
 
   -- what a verdict says

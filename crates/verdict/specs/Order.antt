@@ -1,25 +1,23 @@
 -- The order in which the code tests. No promise to other crates rests on it: the proofs tie it to Answer.antt.
-use Prim.Native.Nat.{ℕ, _+_, _*_, _%_, _<_}
+use Prim.Native.Nat.{ℕ, _+_, _*_, _%_}
 use mathlib.Core.Path.{_≡_}
 use mathlib.Core.Bool.{Bool}
-use mathlib.Core.List.{List}
+use mathlib.Core.List.{List, [], _∷_, _++_}
 use lib.Dec.{eqb, ltb}
 use lib.ListN.{length}
 use Rattle.record.specs.Choice.{_and_, _or_, choose}
 use Rattle.record.specs.Value.{held}
 use Rattle.record.specs.Tests.{blank, digits, alike}
 use Rattle.record.specs.Numeral.{numeral}
-use Rattle.money.specs.declared.Amount.{Amount}
 use Rattle.money.specs.Money.{split, cents}
 use Rattle.book.specs.declared.Section.{Section}
-use Rattle.book.specs.declared.Book.{Book}
-use Rattle.book.specs.Book.{Contents, Lists, entriesAt, entryFor, isNone, placed, shut}
-use Rattle.nesting.specs.Division.{Record, Division, DivisionOf, paymentCount}
-use Rattle.nesting.specs.Paid.{paidByAll}
+use Rattle.book.specs.Book.{Contents, Lists, entriesAt, entryFor, isNone, shut}
+use Rattle.nesting.specs.Division.{Record, Division, DivisionOf}
 use Rattle.nesting.specs.Records.{Cuttable, records}
 use Rattle.verdict.specs.declared.Verdict.{Verdict}
-use Rattle.verdict.specs.Answer.{Reason, numberOf, Applies, Judgement, inputSystem, versionIdentifier, totalCountRecords, totalCount, totalAmount, version201}
-use Rattle.verdict.specs.Answer.Reason.{Empty, Ragged, TooLong, InputSystem, Version, TrailerDigits, RecordCount, PaymentCount, TotalAmount}
+use Rattle.record.specs.Fields.{inputSystem, versionIdentifier, totalCountRecords, totalCount, totalAmount}
+use Rattle.verdict.specs.Answer.{Reason, numberOf, stated, acceptance, NoneOf, Judgement, version201}
+use Rattle.verdict.specs.Answer.Reason.{Empty, Ragged, TooLong, BookUnsound, Nesting, ReportShort, LowByte, InputSystem, Version, TrailerDigits, RecordCount, PaymentCount, TotalAmount}
 
 -- the refusal by its number
 unfoldable pub refusalBy : ℕ → ℕ → Verdict
@@ -54,22 +52,34 @@ trailerReason count payments total r =
     (numberOf RecordCount))
     (numberOf TrailerDigits)
 
--- what answers 1 to 5 leave: whole records with a division, what they come to, and a book that lists something
-pub record Known (file book : List ℕ) (shelves : Book) (batches payments : ℕ) (total : Amount) : Type 0 where
+-- what is left to test: from FT on, from FH on, from the report's room on, from the book on
+abbrev pub fromTrailer : List Reason
+fromTrailer = TrailerDigits ∷ RecordCount ∷ PaymentCount ∷ TotalAmount ∷ []
+
+abbrev pub fromHeader : List Reason
+fromHeader = InputSystem ∷ Version ∷ fromTrailer
+
+abbrev pub fromRoom : List Reason
+fromRoom = ReportShort ∷ LowByte ∷ fromHeader
+
+abbrev pub fromBook : List Reason
+fromBook = BookUnsound ∷ Nesting ∷ fromRoom
+
+-- what the tests before the report's room leave: whole records with a division, a book that lists something, and what to answer if nothing more applies
+pub record Known (file book : List ℕ) (v : Verdict) : Type 0 where
   pub cuttable : Cuttable file
   pub contents : Contents
   pub lists : Lists book contents
-  pub opened : shelves ≡ placed contents
   pub division : Division
   pub divided : DivisionOf (records file) division
-  pub batched : batches ≡ length (division .batches)
-  pub paid : payments ≡ paymentCount (division .batches)
-  pub summed : total ≡ split (paidByAll (division .batches))
+  pub accepts : v ≡ acceptance contents division
 
--- no reason with a number below n applies
-pub record Clear (file book : List ℕ) (room n : ℕ) : Type 0 where
-  pub none : (j : Reason) → numberOf j < n → Applies file book room j → ⊥
+-- only these are left: no reason that is stated before them applies
+pub record Clear (file book : List ℕ) (room : ℕ) (left : List Reason) : Type 0 where
+  pub earlier : List Reason
+  pub order : stated ≡ earlier ++ left
+  pub none : NoneOf file book room earlier
 
--- the verdict where none of the first seven applies, whatever the room
+-- the verdict where FH and FT are left, whatever the room
 pub record Framed (file book : List ℕ) (v : Verdict) : Type 0 where
-  pub judged : (room : ℕ) → Clear file book room 8 → Judgement file book room v
+  pub judged : (room : ℕ) → Clear file book room fromHeader → Judgement file book room v

@@ -10,7 +10,7 @@ ghost use lib.ListN.{length};
 ghost use Rattle.record.specs.Value.{seen, held};
 ghost use Rattle.money.specs.Money.{worth, Whole};
 ghost use Rattle.book.specs.Book.{Shelved};
-ghost use Rattle.verdict.specs.Answer.{inputSystem};
+ghost use Rattle.record.specs.Fields.{inputSystem};
 ghost use Rattle.verdict.specs.Order.{strangeIn, headerReason, numberedIn, trailerReason};
 
 // The InputSystem is blank or not in the section.

@@ -80,17 +80,11 @@ fn length_reason(file: &[u8]) -> u64
 }
 
 // 8 to 13 by the file's first and last record, or accepted.
-fn judge_frame(
-    file: &[u8],
-    book: &[u8],
-    shelves: Book,
-    batches: usize,
-    payments: usize,
-    total: Amount,
-) -> Verdict
-    requires { ⌜ Known (now file) (now book) shelves batches payments total ⌝ }
+fn judge_frame(file: &[u8], book: &[u8], accepted: Verdict) -> Verdict
+    requires { ⌜ Known (now file) (now book) accepted ⌝ }
     ensures { λ r. ⌜ Framed (now (file .entry)) (now (book .entry)) r ⌝ }
 {
+    let shelves = accepted.shelves;
     let systems = shelves.systems;
     let header = frame::header_reason(book, systems, &file[0..850], Line { number: 1 });
     if header != 0 {
@@ -99,17 +93,13 @@ fn judge_frame(
     let end = file.len();
     let start = end - 850;
     let number = end / 850;
+    let payments = accepted.payments;
+    let total = accepted.total;
     let trailer = frame::trailer_reason(&file[start..end], Line { number }, payments, total);
     if trailer != 0 {
         return refuse(trailer, number);
     }
-    Verdict {
-        answer: 0,
-        shelves,
-        batches,
-        payments,
-        total,
-    }
+    accepted
 }
 
 // 6 and 7, and those that follow.
@@ -117,24 +107,20 @@ fn judge_divided(
     file: &[u8],
     book: &[u8],
     room: usize,
-    shelves: Book,
-    batches: usize,
-    payments: usize,
     unclean: usize,
-    total: Amount,
+    accepted: Verdict,
 ) -> Verdict
-    requires { ⌜ Known (now file) (now book) shelves batches payments total × (unclean ≡ firstUnclean 1 (records (now file))) ⌝ }
+    requires { ⌜ Known (now file) (now book) accepted × (unclean ≡ firstUnclean 1 (records (now file))) ⌝ }
     ensures { λ r. ⌜ Judgement (now (file .entry)) (now (book .entry)) room r ⌝ }
 {
-    let rows = 1 + batches;
-    let wanted = 64 * rows;
+    let wanted = report::room_for(accepted.batches);
     if room < wanted {
         return refuse(reason::REPORT_SHORT, 0);
     }
     if unclean != 0 {
         return refuse(reason::LOW_BYTE, unclean);
     }
-    judge_frame(file, book, shelves, batches, payments, total)
+    judge_frame(file, book, accepted)
 }
 
 // The answer about a file and the room of a report, in document 01's order. Nothing is written.
@@ -154,15 +140,15 @@ pub fn file_answer(file: &[u8], book: &[u8], room: usize) -> Verdict
     let total = found.total;
     match nested {
         nesting::Verdict::Refused(number) => refuse(reason::NESTING, number),
-        nesting::Verdict::Legal(batches, payments) => judge_divided(
-            file,
-            book,
-            room,
-            shelves,
-            batches,
-            payments,
-            found.unclean,
-            total,
-        ),
+        nesting::Verdict::Legal(batches, payments) => {
+            let accepted = Verdict {
+                answer: 0,
+                shelves,
+                batches,
+                payments,
+                total,
+            };
+            judge_divided(file, book, room, found.unclean, accepted)
+        }
     }
 }

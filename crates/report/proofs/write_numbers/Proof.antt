@@ -2,7 +2,8 @@ use Prim.Native.Nat.{_≤_, _<_, _-_, _*_}
 use mathlib.Core.Path.{_≡_}
 use lib.ListN.{length, drop}
 use Rattle.report.specs.Rows.{rowBytes}
-use Rattle.report.proofs.Writing.{Written, written-none, number-next, numbers-all}
+use Rattle.numbers.proofs.Writing.{Written, written-none}
+use Rattle.report.proofs.Writing.{number-next, numbers-all}
 use borrow.Author.Needs.{needs}
 use Rattle.report.proofs.write_numbers.Statement.{statement}
 use Rattle.report.proofs.write_numbers.Tie as tie
@@ -22,23 +23,23 @@ mul-at c = search needs
 add-end : tie.Need-add-end Inv-loop μ-loop
 add-end c = search needs
 
-sub-write-number : tie.Need-sub-write-number Inv-loop μ-loop
-sub-write-number c = search needs
+sub-write : tie.Need-sub-write Inv-loop μ-loop
+sub-write c = search needs
 
-part-write-number-start : tie.Need-part-write-number-start Inv-loop μ-loop
-part-write-number-start c = search needs
+part-write-start : tie.Need-part-write-start Inv-loop μ-loop
+part-write-start c = search needs
 
-part-write-number-end : tie.Need-part-write-number-end Inv-loop μ-loop
-part-write-number-end c = search needs
+part-write-end : tie.Need-part-write-end Inv-loop μ-loop
+part-write-end c = search needs
 
-mul-write-number : tie.Need-mul-write-number Inv-loop μ-loop
-mul-write-number c = search needs
+mul-write : tie.Need-mul-write Inv-loop μ-loop
+mul-write c = search needs
 
-array-read-write-number : tie.Need-array-read-write-number Inv-loop μ-loop
-array-read-write-number c = search needs
+array-read-write : tie.Need-array-read-write Inv-loop μ-loop
+array-read-write c = search needs
 
-write-number-requires : tie.Need-write-number-requires Inv-loop μ-loop
-write-number-requires c κs = search needs
+write-requires : tie.Need-write-requires Inv-loop μ-loop
+write-requires c κs = search needs
 
 add-k : tie.Need-add-k Inv-loop μ-loop
 add-k c = search needs
@@ -66,12 +67,12 @@ write-numbers-spec =
     loop-holds
     mul-at
     add-end
-    sub-write-number
-    part-write-number-start
-    part-write-number-end
-    mul-write-number
-    array-read-write-number
-    write-number-requires
+    sub-write
+    part-write-start
+    part-write-end
+    mul-write
+    array-read-write
+    write-requires
     add-k
     loop-less
     loop-again

@@ -3,9 +3,6 @@ use borrow.Author.Needs.{needs}
 use Rattle.report.proofs.write_row.Statement.{statement}
 use Rattle.report.proofs.write_row.Tie as tie
 
-mul-at : tie.Need-mul-at
-mul-at c = search needs
-
 add-end : tie.Need-add-end
 add-end c = search needs
 
@@ -31,7 +28,6 @@ pub write-row-spec : {M : Type 1} → statement M
 write-row-spec =
     tie.close
     (tie.spec
-    mul-at
     add-end
     sub-write-numbers
     part-write-numbers-start

@@ -54,7 +54,7 @@ add-after c =
 returns : tie.Need-returns
 returns c =
     is-judged (c .before .before .before .before .before .before .before .before .before .pre .1) (c .before .before .before .before .before .batch-records .ensures)
-    _ _ _ (c .before .before .before .before .look-at-batch .ensures) _ (c .before .before .judge-batch .ensures) _
+    _ _ (c .before .before .before .before .look-at-batch .ensures) _ (c .before .before .judge-batch .ensures) _
     (c .before .batch-numbers .ensures)
 
 pub judge-next-spec : {M : Type 1} → statement M

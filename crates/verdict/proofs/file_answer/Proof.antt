@@ -1,5 +1,6 @@
 use Rattle.verdict.proofs.Laws.{length-small}
 use Rattle.verdict.proofs.Opening.{unfit, bookless, fit-cuttable, unnested, named-small, divided, first-unclean}
+use Rattle.verdict.specs.Answer.{numberOf}
 use borrow.Author.Tests.{not-true, not-false}
 use borrow.Author.Needs.{needs}
 use Rattle.verdict.proofs.file_answer.Statement.{statement}
@@ -21,6 +22,7 @@ refuse-requires-2 : tie.Need-refuse-requires-2
 refuse-requires-2 c κs = search needs
 
 returns-2 : tie.Need-returns-2
+unfolding numberOf
 returns-2 c = search (needs, bookless, not-true)
 
 survey-file-requires : tie.Need-survey-file-requires
@@ -39,6 +41,7 @@ judge-divided-requires : tie.Need-judge-divided-requires
 judge-divided-requires c κs = search (needs, divided, first-unclean, not-false)
 
 returns-3 : tie.Need-returns-3
+unfolding numberOf
 returns-3 c = search (needs, unnested, not-false)
 
 returns-4 : tie.Need-returns-4

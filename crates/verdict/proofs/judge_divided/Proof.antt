@@ -1,24 +1,24 @@
 use Rattle.verdict.proofs.Divided.{batches-small, short, unclean-small, low, onward}
+use Rattle.verdict.specs.Answer.{numberOf}
 use borrow.Author.Needs.{needs}
 use Rattle.verdict.proofs.judge_divided.Statement.{statement}
 use Rattle.verdict.proofs.judge_divided.Tie as tie
 
-add-rows : tie.Need-add-rows
-add-rows c = let k = batches-small _ _ _ _ _ _ (c .before .before .pre .0) in search needs
-
-mul-wanted : tie.Need-mul-wanted
-mul-wanted c = let k = batches-small _ _ _ _ _ _ (c .before .before .pre .0) in search needs
+room-for-requires : tie.Need-room-for-requires
+room-for-requires c κs = search (needs, batches-small)
 
 refuse-requires : tie.Need-refuse-requires
 refuse-requires c κs = search (needs, unclean-small)
 
 returns : tie.Need-returns
+unfolding numberOf
 returns c = search (needs, short)
 
 refuse-requires-2 : tie.Need-refuse-requires-2
 refuse-requires-2 c κs = search (needs, unclean-small)
 
 returns-2 : tie.Need-returns-2
+unfolding numberOf
 returns-2 c = search (needs, low)
 
 judge-frame-requires : tie.Need-judge-frame-requires
@@ -31,8 +31,7 @@ pub judge-divided-spec : {M : Type 1} → statement M
 judge-divided-spec =
     tie.close
     (tie.spec
-    add-rows
-    mul-wanted
+    room-for-requires
     refuse-requires
     returns
     refuse-requires-2
