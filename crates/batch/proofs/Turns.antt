@@ -5,8 +5,7 @@ use mathlib.Core.Bool.{Bool, true, false}
 use mathlib.Core.List.{List, _∷_}
 use Prim.Native.Nat.{ℕ, suc, _+_, _-_, _*_, _/_, _%_, _<_, _≤_}
 use native.Mathlib.Omega.{arith}
-use lib.ListN.{length, take, drop, length-take, length-drop}
-use lib.Seq.{drop-drop}
+use lib.ListN.{length, take, drop, length-take}
 use Rattle.record.specs.declared.Field.{Field}
 use Rattle.record.specs.declared.Line.{Line}
 use Rattle.record.specs.declared.codes.Code.{Code}
@@ -20,7 +19,8 @@ use Rattle.money.specs.Money.{worth, split, cents}
 use Rattle.money.proofs.Amounts.{worth-split, split-whole, cents-below}
 use Rattle.book.specs.Book.{Contents}
 use Rattle.nesting.specs.Division.{Record}
-use Rattle.nesting.specs.Records.{cut}
+use Rattle.nesting.specs.Records.{lineOf, cut}
+use Rattle.nesting.proofs.Cuts.{bytesFrom, from-length, recordFrom, cut-next}
 use Rattle.repeats.specs.declared.Repeat.{Repeat}
 use Rattle.rules.specs.declared.Context.{Context}
 use Rattle.rules.specs.Rules.{Kept}
@@ -167,12 +167,9 @@ module _ (line : Line) (rec : List ℕ) (l : length rec ≡ 850) where
     room-step code.FileTrailer repeats h = room-later
     room-step code.Unknown repeats h = room-later
 
--- the first record of the part, and the record at `at`, as they are seen
+-- the first record of the part, as it is seen
 abbrev pub top : List ℕ → ℕ → Record
-top part first = seen (record { number = first }) (take 850 part)
-
-abbrev pub here : List ℕ → ℕ → ℕ → Record
-here part n at = seen (record { number = n }) (take (at + 850 - at) (drop at part))
+top part first = seen (lineOf first) (take 850 part)
 
 -- the walk over all records but the first
 abbrev pub walked : Contents → List ℕ → ℕ → Bool → Repeat → State
@@ -188,7 +185,7 @@ pub record Walking (book : Contents) (part : List ℕ) (first : ℕ) (repeats : 
   pub left : walked book part first repeats rep ≡ run book (isAt rep) n s (cut n (length part / 850 - (n - first)) (drop at part))
 
 module _ (book : Contents) (part : List ℕ) (first : ℕ) (repeats : Bool) (rep : Repeat) (w : length part % 850 ≡ 0) where
-  pub begun : (s : State) → 850 ≤ length part → s ≡ opening book repeats first (seen (record { number = first }) (take 850 part))
+  pub begun : (s : State) → 850 ≤ length part → s ≡ opening book repeats first (top part first)
       → Walking book part first repeats rep s (first + 1) 850
   begun s h e =
       let k : first + 1 - first ≡ 1 = omega arith in
@@ -198,22 +195,20 @@ module _ (book : Contents) (part : List ℕ) (first : ℕ) (repeats : Bool) (rep
         place = omega arith;
         later = omega arith;
         within = h;
-        room = room-opening (record { number = first }) (take 850 part) l book repeats first first;
+        room = room-opening (lineOf first) (take 850 part) l book repeats first first;
         left = rw k;
       })
 
   module _ (s : State) (n at : ℕ) (i : Walking book part first repeats rep s n at) where
-    pub here-length : at < length part → length (take (at + 850 - at) (drop at part)) ≡ 850
-    here-length h = simp (length-take, length-drop) (omega (arith, w, i .place, i .later))
+    pub here-length : at < length part → length (bytesFrom part at) ≡ 850
+    here-length h = from-length part at (omega (arith, w, i .place, i .later))
 
-    cut-next : at < length part → cut n (length part / 850 - (n - first)) (drop at part) ≡ here part n at ∷ cut (n + 1) (length part / 850 - (n + 1 - first)) (drop (at + 850) part)
-    unfolding cut
-    cut-next h =
+    left-next : at < length part → cut n (length part / 850 - (n - first)) (drop at part) ≡ recordFrom part n at ∷ cut (n + 1) (length part / 850 - (n + 1 - first)) (drop (at + 850) part)
+    left-next h =
         let e : length part / 850 - (n - first) ≡ suc (length part / 850 - (n + 1 - first)) = omega (arith, w, i .place, i .later) in
-        let k : at + 850 - at ≡ 850 = omega arith in
-        rw (e, k, drop-drop 850 at part)
+        rw e (cut-next part n at (length part / 850 - (n + 1 - first)))
 
-    pub turned : (t : State) (marked : Bool) → at < length part → n ≤ 65535 → marked ≡ isAt rep n → t ≡ stepOf book (codeOf (here part n at)) s n (here part n at) marked
+    pub turned : (t : State) (marked : Bool) → at < length part → n ≤ 65535 → marked ≡ isAt rep n → t ≡ stepOf book (codeOf (recordFrom part n at)) s n (recordFrom part n at) marked
         → Walking book part first repeats rep t (n + 1) (at + 850)
     unfolding run
     turned t marked h few m e =
@@ -223,9 +218,9 @@ module _ (book : Contents) (part : List ℕ) (first : ℕ) (repeats : Bool) (rep
           within = omega (arith, w, i .place, i .later);
           room =
               rw e
-              (room-step (record { number = n }) (take (at + 850 - at) (drop at part)) (here-length h) book n s (i .room)
-              (codeOf (here part n at)) marked few);
-          left = i .left ∙ rw (cut-next h, e, m);
+              (room-step (lineOf n) (bytesFrom part at) (here-length h) book n s (i .room)
+              (codeOf (recordFrom part n at)) marked few);
+          left = i .left ∙ rw (left-next h, e, m);
         }
 
     pub finished : length part ≤ at → s ≡ walked book part first repeats rep

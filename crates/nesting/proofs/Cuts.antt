@@ -1,15 +1,15 @@
--- The records of a file: whole, as many as there are, side by side the file again; and those of a part of it.
+-- The records of a file: whole, as many as there are, side by side the file again; those of a part of it; and each by its place.
 -- Assumes nothing.
 use mathlib.Core.Path.{_≡_, refl, _∙_, ap}
-use mathlib.Core.List.{List, [], _∷_}
+use mathlib.Core.List.{List, [], _∷_, _++_}
 use Prim.Native.Nat.{ℕ, zero, suc, _+_, _*_, _/_, _-_, _<_, _≤_}
 use native.Mathlib.Omega.{arith}
-use lib.ListN.{length, take, drop, getD, length-drop, take-append-drop}
+use lib.ListN.{length, take, drop, getD, length-take, length-drop, take-append-drop}
 use lib.Seq.{take-take, drop-drop, take-add, drop-at, length-take-le}
 use Rattle.record.specs.Value.{seen}
 use Rattle.record.proofs.Held.{as-sent}
 use Rattle.nesting.specs.Division.{Record, All, Whole}
-use Rattle.nesting.specs.Records.{cut, records, joined, Cuttable}
+use Rattle.nesting.specs.Records.{lineOf, cut, recordAt, records, joined, Cuttable}
 use Rattle.nesting.proofs.Wholes.{Bytes, all-take, all-drop}
 
 pub cut-length : (n k : ℕ) (xs : List ℕ) → length (cut n k xs) ≡ k
@@ -46,9 +46,15 @@ pub records-joined : (f : List ℕ) → Cuttable f → joined (records f) ≡ f
 unfolding records
 records-joined f w = cut-joined 1 (length f / 850) f (omega (arith, w .whole))
 
--- the record with this number, which begins at `at`, as a loop over the bytes takes it
+-- the bytes of the record that begins at `at`, as the code takes them, and the record with this number that they are
+abbrev pub bytesFrom : List ℕ → ℕ → List ℕ
+bytesFrom f at = take (at + 850 - at) (drop at f)
+
+pub from-length : (f : List ℕ) (at : ℕ) → at + 850 ≤ length f → length (bytesFrom f at) ≡ 850
+from-length f at h = simp (length-take, length-drop) (omega arith)
+
 abbrev pub recordFrom : List ℕ → ℕ → ℕ → Record
-recordFrom f number at = seen (record { number = number }) (take (at + 850 - at) (drop at f))
+recordFrom f number at = seen (lineOf number) (bytesFrom f at)
 
 -- where one more record is left
 pub cut-next : (f : List ℕ) (number at count : ℕ)
@@ -81,7 +87,7 @@ cut-take n (suc j) m xs h =
     let t : drop 850 (take (850 + j * 850) xs) ≡ take (j * 850) (drop 850 xs) =
     rw (take-add 850 (j * 850) xs) (drop-at (take 850 xs) (take (j * 850) (drop 850 xs)) 850 (length-take-le 850 xs (omega arith))) in
     rw (e, g, t, take-take 850 (850 + j * 850) xs (omega arith))
-    (ap (_∷_ (seen (record { number = n }) (take 850 xs))) (cut-take (n + 1) j m (drop 850 xs) (rw length-drop (omega arith))))
+    (ap (_∷_ (seen (lineOf n) (take 850 xs))) (cut-take (n + 1) j m (drop 850 xs) (rw length-drop (omega arith))))
 
 -- j records from the record after i: cut from their own part of the bytes
 pub cut-part : (n i j k : ℕ) (xs : List ℕ) → i + j ≤ k → k * 850 ≤ length xs → take j (drop i (cut n k xs)) ≡ cut (n + i) j (take (j * 850) (drop (i * 850) xs))
@@ -89,3 +95,46 @@ cut-part n i j k xs h w =
     let e : k ≡ i + (j + (k - i - j)) = omega arith in
     rw e
     (rw (cut-drop n i (j + (k - i - j)) xs) (cut-take (n + i) j (k - i - j) (drop (i * 850) xs) (rw length-drop (omega arith))))
+
+-- the record at a place, as the code takes it
+pub from-place : (first place : ℕ) (xs : List ℕ) → recordFrom xs (first + place) (place * 850) ≡ recordAt first place xs
+unfolding recordAt
+from-place first place xs =
+    let e : place * 850 + 850 - place * 850 ≡ 850 = omega arith in
+    rw e
+
+-- the records from a place on: so many
+abbrev pub onward : ℕ → ℕ → ℕ → List ℕ → List Record
+onward first place count xs = cut (first + place) count (drop (place * 850) xs)
+
+pub cut-onward : (first place count : ℕ) (xs : List ℕ) → onward first place (suc count) xs ≡ recordAt first place xs ∷ onward first (place + 1) count xs
+cut-onward first place count xs =
+    let e : place * 850 + 850 ≡ (place + 1) * 850 = omega arith in
+    let f : first + place + 1 ≡ first + (place + 1) = omega arith in
+    cut-next xs (first + place) (place * 850) count ∙ rw (from-place first place xs, e, f)
+
+pub cut-start : (first count : ℕ) (xs : List ℕ) → cut first count xs ≡ onward first 0 count xs
+cut-start first count xs =
+    let e : first + 0 ≡ first = omega arith in
+    rw e
+
+-- one record more
+record-later : (first place : ℕ) (xs : List ℕ) → recordAt (first + 1) place (drop 850 xs) ≡ recordAt first (suc place) xs
+unfolding recordAt
+record-later first place xs =
+    let e : 850 + place * 850 ≡ suc place * 850 = omega arith in
+    let f : first + 1 + place ≡ first + suc place = omega arith in
+    rw (drop-drop (place * 850) 850 xs, e, f)
+
+record-first : (first : ℕ) (xs : List ℕ) → seen (lineOf first) (take 850 xs) ≡ recordAt first 0 xs
+unfolding recordAt
+record-first first xs =
+    let e : first + 0 ≡ first = omega arith in
+    rw e
+
+pub cut-snoc : (first count : ℕ) (xs : List ℕ) → cut first (count + 1) xs ≡ cut first count xs ++ recordAt first count xs ∷ []
+unfolding cut
+cut-snoc first zero xs = ap (λ (r : Record). r ∷ []) (record-first first xs)
+cut-snoc first (suc count) xs =
+    let e : suc count + 1 ≡ suc (count + 1) = omega arith in
+    rw (e, cut-snoc (first + 1) count (drop 850 xs), record-later first count xs)

@@ -3,13 +3,22 @@ use mathlib.Core.Path.{_≡_}
 use mathlib.Core.List.{List, [], _∷_, _++_}
 use Prim.Native.Nat.{ℕ, zero, suc, _+_, _*_, _/_, _%_, _≤_}
 use lib.ListN.{length, take, drop}
+use Rattle.record.specs.declared.Line.{Line}
 use Rattle.record.specs.Value.{seen}
 use Rattle.nesting.specs.Division.{Record}
+
+-- the line of the record with this number
+abbrev pub lineOf : ℕ → Line
+lineOf number = record { number = number }
 
 -- the first `count` records of the bytes, as the rules see them; the first has this number
 unfoldable pub cut : ℕ → ℕ → List ℕ → List Record
 cut number zero bytes = []
-cut number (suc count) bytes = seen (record { number = number }) (take 850 bytes) ∷ cut (number + 1) count (drop 850 bytes)
+cut number (suc count) bytes = seen (lineOf number) (take 850 bytes) ∷ cut (number + 1) count (drop 850 bytes)
+
+-- the record at a place, counted from 0, as the rules see it; the record at place 0 has the number `first`
+unfoldable pub recordAt : ℕ → ℕ → List ℕ → Record
+recordAt first place bytes = seen (lineOf (first + place)) (take 850 (drop (place * 850) bytes))
 
 -- the records of a file, numbered from 1 (01 Bytes)
 unfoldable pub records : List ℕ → List Record

@@ -11,12 +11,11 @@ use Rattle.record.specs.Tests.{alike}
 use Rattle.record.proofs.Chain.{and-right, and-false}
 use Rattle.record.proofs.Same.{alike-equal}
 use Rattle.nesting.specs.Division.{Record}
-use Rattle.nesting.specs.Records.{cut}
+use Rattle.nesting.specs.Records.{cut, recordAt}
+use Rattle.nesting.proofs.Cuts.{cut-snoc}
 use Rattle.repeats.specs.declared.Sort.the-variants.{Payments}
 use Rattle.repeats.specs.Repeats.{isOf, numbers, member, repeats}
-use Rattle.repeats.specs.Places.{recordAt}
 use Rattle.repeats.specs.Sieve.{idOf, hashOf, hasMarks, withMarks, classOf, inClass, AllMarked, repeatsIn}
-use Rattle.repeats.proofs.Cuts.{cut-snoc}
 use Rattle.repeats.proofs.Marks.{marks-length, marks-keep, marks-own}
 use Rattle.repeats.proofs.Walks.{member-choose}
 

@@ -2,15 +2,15 @@
 -- Assumes nothing.
 use mathlib.Core.Path.{_≡_, refl, ap, _∙_}
 use mathlib.Core.List.{List}
-use Prim.Native.Nat.{ℕ, _+_, _<_, _≤_}
+use Prim.Native.Nat.{ℕ, _+_, _*_, _<_, _≤_}
 use lib.ListN.{length, take, getD, set}
 use Rattle.record.specs.declared.Field.{Field}
 use Rattle.record.specs.Value.{Has, held}
 use Rattle.record.proofs.Held.{held-length}
 use Rattle.record.proofs.Copies.{copy-more, copy-whole}
 use Rattle.nesting.specs.Division.{Record}
-use Rattle.repeats.specs.Places.{recordAt}
-use Rattle.repeats.proofs.Cuts.{taken, asTaken, taken-is}
+use Rattle.nesting.specs.Records.{lineOf, recordAt}
+use Rattle.nesting.proofs.Cuts.{bytesFrom, recordFrom, from-place}
 
 -- the first i bytes are copied
 unfoldable pub Copied : List ℕ → List ℕ → ℕ → Type 0
@@ -20,13 +20,13 @@ pub copied-none : (copy number : List ℕ) → Copied copy number 0
 unfolding Copied
 copied-none copy number = refl
 
-module _ (first place : ℕ) (xs : List ℕ) (f : Field) (h : Has (taken place xs) f) (copy : List ℕ) (n : length copy ≡ f .width) (i : ℕ) (l : Copied copy (held (asTaken first place xs) f) i) where
-  pub copied-next : (y : ℕ) → i < f .width → y ≡ getD (held (asTaken first place xs) f) i 0 → Copied (set copy i y) (held (asTaken first place xs) f) (i + 1)
+module _ (first place : ℕ) (xs : List ℕ) (f : Field) (h : Has (bytesFrom xs (place * 850)) f) (copy : List ℕ) (n : length copy ≡ f .width) (i : ℕ) (l : Copied copy (held (recordFrom xs (first + place) (place * 850)) f) i) where
+  pub copied-next : (y : ℕ) → i < f .width → y ≡ getD (held (recordFrom xs (first + place) (place * 850)) f) i 0 → Copied (set copy i y) (held (recordFrom xs (first + place) (place * 850)) f) (i + 1)
   unfolding Copied
-  copied-next y k e = copy-more copy _ i (f .width) y n (held-length (record { number = first + place }) (taken place xs) f h) k e l
+  copied-next y k e = copy-more copy _ i (f .width) y n (held-length (lineOf (first + place)) (bytesFrom xs (place * 850)) f h) k e l
 
   pub copied-whole : f .width ≤ i → copy ≡ held (recordAt first place xs) f
   unfolding Copied
   copied-whole k =
-      copy-whole copy _ i (f .width) n (held-length (record { number = first + place }) (taken place xs) f h) k l
-      ∙ ap (λ (r : Record). held r f) (taken-is first place xs)
+      copy-whole copy _ i (f .width) n (held-length (lineOf (first + place)) (bytesFrom xs (place * 850)) f h) k l
+      ∙ ap (λ (r : Record). held r f) (from-place first place xs)

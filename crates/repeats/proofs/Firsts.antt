@@ -9,14 +9,14 @@ use lib.ListN.{length}
 use Rattle.record.specs.Choice.{_and_, choose}
 use Rattle.record.specs.Value.{held}
 use Rattle.record.specs.Ordering.{order}
-use Rattle.nesting.specs.Records.{cut}
+use Rattle.nesting.specs.Records.{cut, recordAt}
+use Rattle.nesting.proofs.Cuts.{onward, cut-onward, cut-snoc}
 use Rattle.repeats.specs.declared.Repeat.{Repeat}
 use Rattle.repeats.specs.declared.Repeat.the-variants.{At, Nowhere}
 use Rattle.repeats.specs.declared.Sort.the-variants.{Payments}
 use Rattle.repeats.specs.declared.walk.Climbing.{Climbing}
 use Rattle.repeats.specs.Repeats.{numbering, isOf, numbers, repeats, firstRepeat, Topped}
-use Rattle.repeats.specs.Places.{recordAt, isAfter, rises, raised, climbed}
-use Rattle.repeats.proofs.Cuts.{onward, cut-onward, cut-snoc}
+use Rattle.repeats.specs.Places.{isAfter, rises, raised, climbed}
 use Rattle.repeats.proofs.Looks.{topped-next, after-new}
 
 module _ (first : ℕ) (xs : List ℕ) where

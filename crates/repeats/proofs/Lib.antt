@@ -1,4 +1,3 @@
-pub mod Cuts
 mod Places
 mod Copies
 mod Greatest

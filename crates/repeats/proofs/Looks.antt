@@ -9,12 +9,12 @@ use Rattle.record.specs.Value.{held}
 use Rattle.record.specs.Ordering.{order}
 use Rattle.record.proofs.Chain.{and-false}
 use Rattle.nesting.specs.Division.{Record}
-use Rattle.nesting.specs.Records.{cut}
+use Rattle.nesting.specs.Records.{cut, recordAt}
+use Rattle.nesting.proofs.Cuts.{cut-snoc}
 use Rattle.repeats.specs.declared.Sort.{Sort}
 use Rattle.repeats.specs.declared.Sort.the-variants.{Batches}
 use Rattle.repeats.specs.Repeats.{numbering, isOf, numbers, repeats, Topped}
-use Rattle.repeats.specs.Places.{recordAt, isAfter, rises, raised, looked}
-use Rattle.repeats.proofs.Cuts.{cut-snoc}
+use Rattle.repeats.specs.Places.{isAfter, rises, raised, looked}
 use Rattle.repeats.proofs.Greatest.{topped-miss, topped-keep, topped-raise}
 
 -- the numbers of one record more

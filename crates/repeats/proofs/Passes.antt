@@ -12,11 +12,10 @@ use borrow.Author.Tests.{eq-eqb}
 use lib.Dec.{eqb}
 use lib.ListN.{length}
 use Rattle.record.specs.Choice.{_and_}
-use Rattle.nesting.specs.Records.{cut}
+use Rattle.nesting.specs.Records.{cut, recordAt}
 use Rattle.repeats.specs.declared.Repeat.the-variants.{At, Nowhere}
 use Rattle.repeats.specs.declared.Sort.the-variants.{Payments}
 use Rattle.repeats.specs.Repeats.{isOf, repeats}
-use Rattle.repeats.specs.Places.{recordAt}
 use Rattle.repeats.specs.Sieve.{idOf, classOf, inClass, repeatsIn, Passed}
 use Rattle.repeats.proofs.Firsts.{wantedRepeat, Seeking, seeking-none, seeking-next, seeking-stop, seeking-end}
 

@@ -12,21 +12,22 @@ use Rattle.record.specs.Value.{held}
 use Rattle.record.specs.Tests.{alike}
 use Rattle.record.specs.Ordering.{order}
 use Rattle.record.specs.Codes.{codeOf, isDetail, isHeader}
+use Rattle.nesting.specs.Records.{recordAt}
+use Rattle.nesting.proofs.Cuts.{bytesFrom, recordFrom, from-place, from-length}
 use Rattle.repeats.specs.declared.Sort.{Sort}
 use Rattle.repeats.specs.declared.Sort.the-variants.{Payments, Batches}
 use Rattle.repeats.specs.Repeats.{numbering, isOf}
-use Rattle.repeats.specs.Places.{recordAt, isAfter}
-use Rattle.repeats.proofs.Cuts.{taken, asTaken, taken-is, taken-length}
+use Rattle.repeats.specs.Places.{isAfter}
 
 -- the record at the place is of the sort
-module _ (sort : Sort) (first place : ℕ) (xs : List ℕ) (k : Code) (r : Bool) (e : k ≡ codeOf (asTaken first place xs)) where
+module _ (sort : Sort) (first place : ℕ) (xs : List ℕ) (k : Code) (r : Bool) (e : k ≡ codeOf (recordFrom xs (first + place) (place * 850))) where
   pub of-payments : sort ≡ Payments → r ≡ isDetail k → r ≡ isOf sort (recordAt first place xs)
   unfolding isOf
-  of-payments s h = rw (s, ← taken-is first place xs, ← e) h
+  of-payments s h = rw (s, ← from-place first place xs, ← e) h
 
   pub of-batches : sort ≡ Batches → r ≡ isHeader k → r ≡ isOf sort (recordAt first place xs)
   unfolding isOf
-  of-batches s h = rw (s, ← taken-is first place xs, ← e) h
+  of-batches s h = rw (s, ← from-place first place xs, ← e) h
 
 -- the field of the sort, in the bytes of a record as the code takes them
 number-start : (sort : Sort) → 1 ≤ numbering sort .start
@@ -43,16 +44,16 @@ module _ (sort : Sort) (f : Field) (e : f ≡ numbering sort) where
   pub field-start : 1 ≤ f .start
   field-start = rw e (number-start sort)
 
-  pub field-end : (place : ℕ) (xs : List ℕ) → place * 850 + 850 ≤ length xs → f .start + f .width ≤ length (taken place xs) + 1
-  field-end place xs h = rw (e, taken-length place xs h) (number-end sort)
+  pub field-end : (place : ℕ) (xs : List ℕ) → place * 850 + 850 ≤ length xs → f .start + f .width ≤ length (bytesFrom xs (place * 850)) + 1
+  field-end place xs h = rw (e, from-length xs (place * 850) h) (number-end sort)
 
   pub as-wide : (greatest : List ℕ) → length greatest ≡ numbering sort .width → length greatest ≡ f .width
   as-wide greatest h = rw e h
 
-  pub same-numbers : (first place earlier : ℕ) (xs : List ℕ) (r : Bool) → r ≡ alike (held (asTaken first earlier xs) f) (held (asTaken first place xs) f)
+  pub same-numbers : (first place earlier : ℕ) (xs : List ℕ) (r : Bool) → r ≡ alike (held (recordFrom xs (first + earlier) (earlier * 850)) f) (held (recordFrom xs (first + place) (place * 850)) f)
       → r ≡ alike (held (recordAt first earlier xs) (numbering sort)) (held (recordAt first place xs) (numbering sort))
-  same-numbers first place earlier xs r h = h ∙ rw (taken-is first earlier xs, taken-is first place xs, e)
+  same-numbers first place earlier xs r h = h ∙ rw (from-place first earlier xs, from-place first place xs, e)
 
-  pub after-number : (first place : ℕ) (xs greatest : List ℕ) (r : Bool) → r ≡ isAfter (order (held (asTaken first place xs) f) greatest)
+  pub after-number : (first place : ℕ) (xs greatest : List ℕ) (r : Bool) → r ≡ isAfter (order (held (recordFrom xs (first + place) (place * 850)) f) greatest)
       → r ≡ isAfter (order (held (recordAt first place xs) (numbering sort)) greatest)
-  after-number first place xs greatest r h = h ∙ rw (taken-is first place xs, e)
+  after-number first place xs greatest r h = h ∙ rw (from-place first place xs, e)

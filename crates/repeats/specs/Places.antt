@@ -2,23 +2,19 @@
 use Prim.Native.Nat.{ℕ, _+_, _*_, _<_, _≤_}
 use mathlib.Core.Bool.{Bool, true, false, not}
 use mathlib.Core.List.{List}
-use lib.ListN.{length, take, drop}
+use lib.ListN.{length}
 use Rattle.record.specs.declared.Order.{Order}
 use Rattle.record.specs.declared.Order.the-variants.{Before, Same, After}
 use Rattle.record.specs.Choice.{_and_, choose}
-use Rattle.record.specs.Value.{seen, held}
+use Rattle.record.specs.Value.{held}
 use Rattle.record.specs.Ordering.{order}
 use Rattle.nesting.specs.Division.{Record}
-use Rattle.nesting.specs.Records.{cut}
+use Rattle.nesting.specs.Records.{cut, recordAt}
 use Rattle.repeats.specs.declared.Sort.{Sort}
 use Rattle.repeats.specs.declared.Sort.the-variants.{Payments, Batches}
 use Rattle.repeats.specs.declared.Look.{Look}
 use Rattle.repeats.specs.declared.walk.Climbing.{Climbing}
 use Rattle.repeats.specs.Repeats.{numbering, isOf, repeats}
-
--- the record at a place, counted from 0, as the rules see it; the record at place 0 has the number `first`
-unfoldable pub recordAt : ℕ → ℕ → List ℕ → Record
-recordAt first place bytes = seen (record { number = first + place }) (take 850 (drop (place * 850) bytes))
 
 -- the bytes have a whole record at the place, and its number is small
 abbrev pub Stands : ℕ → ℕ → List ℕ → Type 0

@@ -9,10 +9,9 @@ use lib.ListN.{getD, set}
 use Rattle.record.specs.Choice.{_and_}
 use Rattle.record.specs.Value.{held}
 use Rattle.nesting.specs.Division.{Record}
-use Rattle.nesting.specs.Records.{cut}
+use Rattle.nesting.specs.Records.{cut, recordAt}
 use Rattle.repeats.specs.declared.Sort.the-variants.{Payments}
 use Rattle.repeats.specs.Repeats.{numbering, isOf, repeats}
-use Rattle.repeats.specs.Places.{recordAt}
 
 -- a record's Payment ID
 abbrev pub idOf : Record → List ℕ

@@ -9,13 +9,12 @@ use lib.Seq.{length-take-le, take-all, take-at, drop-at, take-take}
 use Rattle.record.specs.Choice.{_and_, choose}
 use Rattle.record.specs.Value.{seen}
 use Rattle.nesting.specs.Division.{Record, All, Batch, batchesOnto, LegalBatch, batchLines, recordsBefore}
-use Rattle.nesting.specs.Records.{cut, records, Cuttable}
-use Rattle.nesting.proofs.Cuts.{cut-length, cut-part}
+use Rattle.nesting.specs.Records.{lineOf, cut, recordAt, records, Cuttable}
+use Rattle.nesting.proofs.Cuts.{cut-length, cut-part, cut-snoc}
 use Rattle.nesting.proofs.Parts.{batch-between, batch-part}
 use Rattle.repeats.specs.declared.Sort.the-variants.{Batches}
 use Rattle.repeats.specs.Repeats.{numbering, numbers, member, repeats, Topped}
-use Rattle.repeats.specs.Places.{recordAt, raised, looked}
-use Rattle.repeats.proofs.Cuts.{cut-snoc}
+use Rattle.repeats.specs.Places.{raised, looked}
 use Rattle.repeats.proofs.Looks.{numbers-snoc, looked-topped}
 use Rattle.batch.specs.Batch.{BatchOf, Judgeable}
 use Rattle.rows.specs.Report.{scheduleOf}
@@ -42,7 +41,7 @@ unfolding cut
 cut-first n zero m xs = refl
 cut-first n (suc j) m xs =
     let e : suc j + m ≡ suc (j + m) = omega arith in
-    rw e (ap (_∷_ (seen (record { number = n }) (take 850 xs))) (cut-first (n + 1) j m (drop 850 xs)))
+    rw e (ap (_∷_ (seen (lineOf n) (take 850 xs))) (cut-first (n + 1) j m (drop 850 xs)))
 
 -- a list's first member
 firstOf : List Record → Record

@@ -6,19 +6,18 @@ use mathlib.Core.List.{List, [], _∷_}
 use Prim.Native.Nat.{ℕ, suc, _+_, _*_, _/_, _-_, _<_, _≤_}
 use native.Mathlib.Omega.{arith}
 use borrow.Author.Tests.{not-true, not-false}
-use lib.ListN.{length, take, drop, getD, length-take, length-drop}
+use lib.ListN.{length, drop, getD}
 use Rattle.record.specs.declared.codes.Code.{Code}
 use Rattle.record.specs.Choice.{choose}
 use Rattle.record.specs.Value.{held}
 use Rattle.record.specs.Codes.{codeOf}
 use Rattle.nesting.specs.declared.Verdict.the-variants.{Legal}
 use Rattle.nesting.specs.declared.reader.Place.the-variants.{FileClosed}
-use Rattle.nesting.specs.declared.reader.State.{State}
 use Rattle.record.specs.Fields.{paymentId}
 use Rattle.nesting.specs.Division.{Record}
-use Rattle.nesting.specs.Records.{cut, records, Cuttable}
+use Rattle.nesting.specs.Records.{lineOf, cut, records, Cuttable}
 use Rattle.nesting.specs.Reader.{isAt, fits, follows}
-use Rattle.nesting.proofs.Cuts.{recordFrom, cut-next}
+use Rattle.nesting.proofs.Cuts.{bytesFrom, from-length, recordFrom, cut-next}
 use Rattle.survey.specs.declared.Survey.{Survey}
 use Rattle.survey.specs.declared.pass.Going.{Going}
 use Rattle.survey.specs.Pass.{detailCents, begun, stepped, surveyOn, Room}
@@ -58,7 +57,7 @@ module _ (f : List ℕ) (g : Going) (n at : ℕ) (w : Cuttable f) (l : Surveying
   within-next h = omega (arith, w .whole, l .place)
 
   here-small : at < length f → detailCents here < 100000000000000000000
-  here-small h = cents-small (record { number = n + 1 }) (take (at + 850 - at) (drop at f)) (simp (length-take, length-drop) (omega (arith, within-next h)))
+  here-small h = cents-small (lineOf (n + 1)) (bytesFrom f at) (omega (arith, from-length f at (within-next h)))
 
   pub number-few : at < length f → n + 1 ≤ 65535
   number-few h = omega (arith, w .few, l .place)

@@ -8,7 +8,7 @@ use lib.ListN.{length, take, drop, getD, length-append}
 use lib.Seq.{drop-at, take-take}
 use Rattle.record.specs.Value.{seen}
 use Rattle.nesting.specs.Division.{Record, Payment, Batch, Division, DivisionOf, paymentsOnto, batchesOnto, batchLines}
-use Rattle.nesting.specs.Records.{cut, records, Cuttable}
+use Rattle.nesting.specs.Records.{lineOf, cut, recordAt, records, Cuttable}
 use Rattle.nesting.proofs.Cuts.{cut-length, cut-part}
 use Rattle.nesting.proofs.Parts.{batch-between}
 
@@ -45,13 +45,14 @@ module _ (file : List ℕ) (w : Cuttable file) (d : Division) (h : DivisionOf (r
   batches-few = omega (arith, count-of file, ap length (h .whole), batches-long (d .batches) (d .trailer ∷ []))
 
   -- a record is cut from its own part of the file
-  record-at : (i : ℕ) → i < length file / 850 → take 1 (drop i (records file)) ≡ seen (record { number = 1 + i }) (take 850 (drop (i * 850) file)) ∷ []
-  unfolding records cut
+  record-at : (i : ℕ) → i < length file / 850 → take 1 (drop i (records file)) ≡ recordAt 1 i file ∷ []
+  unfolding records cut recordAt
   record-at i l =
       let t : take 850 (take (1 * 850) (drop (i * 850) file)) ≡ take 850 (drop (i * 850) file) = take-take 850 (1 * 850) (drop (i * 850) file) (omega arith) in
       cut-part 1 i 1 (length file / 850) file (omega (arith, l)) (omega arith) ∙ rw t
 
-  pub header-first : seen (record { number = 1 }) (take 850 file) ≡ d .header
+  pub header-first : seen (lineOf 1) (take 850 file) ≡ d .header
+  unfolding recordAt
   header-first =
       let e : take 1 (drop 0 (records file)) ≡ d .header ∷ [] = rw (← h .whole) in
       ap (λ (rs : List Record). getD rs 0 []) (sym (record-at 0 (omega (arith, batches-few))) ∙ e)
@@ -66,7 +67,8 @@ module _ (file : List ℕ) (w : Cuttable file) (d : Division) (h : DivisionOf (r
       append-assoc (d .header ∷ batchesOnto (e .earlier) []) (batchLines (e .last)) (d .trailer ∷ [])
       ∙ batch-between (records file) d h (e .earlier) (e .last) [] (e .parts)
 
-  pub trailer-last : seen (record { number = length file / 850 }) (take 850 (drop (length file - 850) file)) ≡ d .trailer
+  pub trailer-last : seen (lineOf (length file / 850)) (take 850 (drop (length file - 850) file)) ≡ d .trailer
+  unfolding recordAt
   trailer-last =
       let n = length file / 850 in
       let l : length before ≡ n - 1 = omega (arith, count-of file, rw length-append at (ap length before-trailer)) in

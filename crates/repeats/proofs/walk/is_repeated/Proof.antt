@@ -2,8 +2,8 @@ use Prim.Native.Nat.{_≤_, _-_}
 use mathlib.Core.Path.{_≡_}
 use mathlib.Core.Bool.{true}
 use Rattle.record.proofs.Chain.{reads}
+use Rattle.nesting.specs.Records.{recordAt}
 use Rattle.repeats.specs.Repeats.{isOf}
-use Rattle.repeats.specs.Places.{recordAt}
 use Rattle.repeats.proofs.Walks.{Ahead, ahead-none, ahead-next, ahead-stop, ahead-end, not-of}
 use borrow.Author.Needs.{needs}
 use Rattle.repeats.proofs.walk.is_repeated.Statement.{statement}
