@@ -71,7 +71,7 @@ fn show_next() -> bool {
     if io::read_full(0, &mut head) < 4 {
         return false;
     }
-    let n = numbers::read(&head[..2]) as usize;
+    let n = numbers::read(&head) as usize;
     let mut query = [0u8; 40];
     io::read_full(0, &mut query);
     let mut space = io::large_buffer();
