@@ -55,12 +55,6 @@ fn show_book(book: &[u8], query: &[u8; 40]) {
     io::write_all(1, b"\n");
 }
 
-fn wide(x: u8) -> usize
-    ensures { λ r. ⌜ r < 256 ⌝ }
-{
-    x as usize
-}
-
 // Reads a book of n bytes, and shows it.
 fn show_read(space: &mut [u8], n: usize, query: &[u8; 40]) {
     if n <= space.len() {
@@ -77,7 +71,7 @@ fn show_next() -> bool {
     if io::read_full(0, &mut head) < 4 {
         return false;
     }
-    let n = wide(head[0]) + wide(head[1]) * 256;
+    let n = numbers::read(&head) as usize;
     let mut query = [0u8; 40];
     io::read_full(0, &mut query);
     let mut space = io::large_buffer();

@@ -53,7 +53,7 @@ fn whole(made: Made, book: usize, next: usize) -> Case
     ensures { λ r. ⌜ Sized (r .made) × (r .next ≡ next) ⌝ }
 {
     let file = made.records * 850;
-    let report = 64 * (1 + made.batches);
+    let report = report::room_for(made.batches);
     Case {
         made,
         file,

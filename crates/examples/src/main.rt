@@ -10,7 +10,9 @@ use case::Case;
 use files::AT_HAND;
 use files::SPACE;
 ghost use Prim.Native.Nat.{_+_, _≤_, _<_};
+ghost use lib.ListN.{length};
 ghost use Rattle.io.specs.Counts.{Counts};
+ghost use Rattle.report.specs.Rows.{roomFor};
 ghost use Rattle.examples.specs.Sized.{Sized};
 
 // The most bytes of the table.
@@ -54,34 +56,18 @@ fn show_kept(report: &[u8; REPORT], from: usize) {
     }
 }
 
-fn wide(x: u8) -> u64
-    ensures { λ r. ⌜ r < 256 ⌝ }
-{
-    x as u64
-}
-
-// The number of four little-endian bytes.
-fn half(report: &[u8; REPORT], at: usize) -> u64
-    requires { ⌜ at + 4 ≤ 1024 ⌝ }
-    ensures { λ r. ⌜ r < 4294967296 ⌝ }
-{
-    let low = wide(report[at]) + wide(report[at + 1]) * 256;
-    let high = wide(report[at + 2]) + wide(report[at + 3]) * 256;
-    low + high * 65536
-}
-
 // Shows the number of eight little-endian bytes.
-fn show_number(report: &[u8; REPORT], at: usize)
-    requires { ⌜ at + 8 ≤ 1024 ⌝ }
+fn show_number(report: &[u8], at: usize)
+    requires { ⌜ at + 8 ≤ length (now report) ⌝ }
 {
-    let n = half(report, at) + half(report, at + 4) * 4294967296;
+    let end = at + 8;
     io::write_all(1, b" ");
-    io::print_decimal(1, n);
+    io::print_decimal(1, numbers::read(&report[at..end]));
 }
 
 // Shows the eight numbers of a row.
-fn show_row(report: &[u8; REPORT], at: usize)
-    requires { ⌜ at + 64 ≤ 1024 ⌝ }
+fn show_row(report: &[u8], at: usize)
+    requires { ⌜ at + 64 ≤ length (now report) ⌝ }
 {
     let end = at + 64;
     let mut i = at;
@@ -89,31 +75,32 @@ fn show_row(report: &[u8; REPORT], at: usize)
         show_number(report, i);
         i += 8;
     }
+    io::write_all(1, b" /");
 }
 
-// Shows the rows up to here.
-fn show_rows(report: &[u8; REPORT], end: usize)
-    requires { ⌜ end ≤ 1024 ⌝ }
+// Shows the head, and the rows of so many batches.
+fn show_rows(report: &[u8; REPORT], batches: usize)
+    requires { ⌜ (batches < 65536) × (roomFor batches ≤ 1024) ⌝ }
 {
-    let mut at: usize = 0;
-    while at + 64 <= end {
-        show_row(report, at);
-        io::write_all(1, b" /");
-        at += 64;
+    show_row(report, 0);
+    let mut place: usize = 0;
+    while place < batches {
+        show_row(report, report::row_at(place));
+        place += 1;
     }
 }
 
-// Judges, and shows the answer; `rows` are the bytes of the rows of an accepted file.
-fn show_answer(file: &[u8], book: &[u8], room: usize, rows: usize)
-    requires { ⌜ (room ≤ 1024) × (rows ≤ 1024) ⌝ }
+// Judges, and shows the answer; an accepted file has so many batches.
+fn show_answer(file: &[u8], book: &[u8], room: usize, batches: usize)
+    requires { ⌜ (room ≤ 1024) × (batches < 65536) × (roomFor batches ≤ 1024) ⌝ }
 {
     let mut report = marked();
     let answer = judge::srf_judge(file, book, &mut report[..room]);
     io::print_decimal(1, answer);
     io::write_all(1, b" /");
     if answer == 0 {
-        show_rows(&report, rows);
-        show_kept(&report, rows);
+        show_rows(&report, batches);
+        show_kept(&report, report::room_for(batches));
     } else {
         show_kept(&report, 0);
     }
@@ -124,11 +111,12 @@ fn show_case(file: &[u8], book: &[u8], case: Case)
     requires { ⌜ Sized (case .made) ⌝ }
 {
     let made = case.made;
-    let rows = 64 * (1 + made.batches);
+    let batches = made.batches;
+    let rows = report::room_for(batches);
     let file_end = case.file;
     let book_end = case.book;
     if case.report <= REPORT && rows <= REPORT && file_end <= file.len() && book_end <= book.len() {
-        show_answer(&file[..file_end], &book[..book_end], case.report, rows);
+        show_answer(&file[..file_end], &book[..book_end], case.report, batches);
     }
 }
 

@@ -59,19 +59,13 @@ fn show_records(space: &[u8], records: usize)
     }
 }
 
-fn wide(x: u8) -> usize
-    ensures { λ r. ⌜ r < 256 ⌝ }
-{
-    x as usize
-}
-
 // Reads and shows one file, and answers whether there was one.
 fn show_next() -> bool {
     let mut head = [0u8; 2];
     if io::read_full(0, &mut head) < 2 {
         return false;
     }
-    let records = wide(head[0]) + wide(head[1]) * 256;
+    let records = numbers::read(&head) as usize;
     if records > 200 {
         return false;
     }

@@ -63,9 +63,9 @@ pub rows-room : (place batches room : ℕ) → place ≤ batches → roomFor bat
 unfolding roomFor rowAt
 rows-room place batches room l h = omega arith
 
-pub row-room : (place batches room : ℕ) → place < batches → roomFor batches ≤ room → rowAt place + 64 ≤ room
+pub row-room : (at place batches room : ℕ) → at ≡ rowAt place → place < batches → roomFor batches ≤ room → at + 64 ≤ room
 unfolding roomFor rowAt
-row-room place batches room l h = omega arith
+row-room at place batches room e l h = omega arith
 
 -- bytes written over others
 pub over-none : (before : List ℕ) (at : ℕ) → over before at [] ≡ before

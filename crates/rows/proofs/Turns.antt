@@ -92,7 +92,7 @@ module _ {book : Contents} {file : List ℕ} {payments batches : ℕ} {first rep
 
     -- its row has room, and its place is small
     pub row-fits : (at : ℕ) → at ≡ rowAt written → at + 64 ≤ length report
-    row-fits at e = rw (e, kept) (row-room written batches (length first) h (w .room))
+    row-fits at e = rw kept (row-room at written batches (length first) e h (w .room))
 
     pub row-few : written < 65536
     row-few = omega (arith, counted (w .cuttable) stands, w .cuttable .few, batches-few (g .earlier), g .start, g .turns)

@@ -1,6 +1,7 @@
 // Judges the file on standard input with the code book in `book.bin`, and prints the rows or the refusal (01 Worked examples, the program).
 ghost use Prim.Native.Nat.{_+_, _<_, _≤_};
 ghost use lib.ListN.{length};
+ghost use Rattle.report.specs.Rows.{roomFor};
 
 // The most bytes of a file and of a book, and one more, by which a longer one shows.
 const MOST: usize = 65536;
@@ -10,45 +11,15 @@ const SPACE: usize = 65537;
 // The report that is lent: 64 rows.
 const REPORT: usize = 4096;
 
-// The bytes of a row.
-const ROW: usize = 64;
-
 // Where the head has the number of batches.
 const BATCHES: usize = 48;
-
-fn wide(byte: u8) -> u64
-    ensures { λ r. ⌜ r < 256 ⌝ }
-{
-    byte as u64
-}
-
-// Two bytes, the least first.
-fn two_at(report: &[u8], at: usize) -> u64
-    requires { ⌜ at + 2 ≤ length (now report) ⌝ }
-    ensures { λ r. ⌜ r < 65536 ⌝ }
-{
-    let low = wide(report[at]);
-    let high = wide(report[at + 1]);
-    low + high * 256
-}
-
-// Four bytes, the least first.
-fn four_at(report: &[u8], at: usize) -> u64
-    requires { ⌜ at + 4 ≤ length (now report) ⌝ }
-    ensures { λ r. ⌜ r < 4294967296 ⌝ }
-{
-    let low = two_at(report, at);
-    let high = two_at(report, at + 2);
-    low + high * 65536
-}
 
 // A number of a row.
 fn number_at(report: &[u8], at: usize) -> u64
     requires { ⌜ at + 8 ≤ length (now report) ⌝ }
 {
-    let low = four_at(report, at);
-    let high = four_at(report, at + 4);
-    low + high * 4294967296
+    let end = at + 8;
+    numbers::read(&report[at..end])
 }
 
 // The row at a place in the report: its eight numbers with single blanks.
@@ -67,15 +38,13 @@ fn show_row(report: &[u8], at: usize)
 }
 
 // The rows of the batches, behind the head.
-fn show_batches(report: &[u8], batches: u64)
-    requires { ⌜ 64 ≤ length (now report) ⌝ }
+fn show_batches(report: &[u8], batches: usize)
+    requires { ⌜ (batches < 65536) × (roomFor batches ≤ length (now report)) ⌝ }
 {
-    let mut left = batches;
-    let mut at = ROW;
-    while left > 0 && at + ROW <= report.len() {
-        show_row(report, at);
-        at += ROW;
-        left -= 1;
+    let mut place: usize = 0;
+    while place < batches {
+        show_row(report, report::row_at(place));
+        place += 1;
     }
 }
 
@@ -83,7 +52,10 @@ fn show_report(report: &[u8])
     requires { ⌜ 64 ≤ length (now report) ⌝ }
 {
     show_row(report, 0);
-    show_batches(report, number_at(report, BATCHES));
+    let batches = number_at(report, BATCHES) as usize;
+    if batches < 65536 && report::room_for(batches) <= report.len() {
+        show_batches(report, batches);
+    }
 }
 
 fn show_answer(file: &[u8], book: &[u8]) {

@@ -28,6 +28,9 @@ write-all-requires c κs = search needs
 show-rows-requires : tie.Need-show-rows-requires
 show-rows-requires c κs = search needs
 
+room-for-requires : tie.Need-room-for-requires
+room-for-requires c κs = search needs
+
 show-kept-requires : tie.Need-show-kept-requires
 show-kept-requires c κs = search needs
 
@@ -52,6 +55,7 @@ show-answer-spec =
     slice-aggregate-write-all
     write-all-requires
     show-rows-requires
+    room-for-requires
     show-kept-requires
     show-kept-requires-2
     returns

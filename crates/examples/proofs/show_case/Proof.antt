@@ -4,11 +4,8 @@ use borrow.Author.Needs.{needs}
 use Rattle.examples.proofs.show_case.Statement.{statement}
 use Rattle.examples.proofs.show_case.Tie as tie
 
-add-rows : tie.Need-add-rows
-add-rows c = search needs
-
-mul-rows : tie.Need-mul-rows
-mul-rows c = search needs
+room-for-requires : tie.Need-room-for-requires
+room-for-requires c κs = search needs
 
 slice-aggregate-show-answer : tie.Need-slice-aggregate-show-answer
 slice-aggregate-show-answer c = sym (length-take-le _ _ (search needs))
@@ -17,7 +14,7 @@ slice-aggregate-show-answer-2 : tie.Need-slice-aggregate-show-answer-2
 slice-aggregate-show-answer-2 c = sym (length-take-le _ _ (search needs))
 
 show-answer-requires : tie.Need-show-answer-requires
-show-answer-requires c κs = search needs
+show-answer-requires c κs = (search needs, search needs, rw (← c .before .before .before .before .before .before .before .room-for .ensures) (search needs))
 
 returns : tie.Need-returns
 returns c = search needs
@@ -29,8 +26,7 @@ pub show-case-spec : {M : Type 1} → statement M
 show-case-spec =
     tie.close
     (tie.spec
-    add-rows
-    mul-rows
+    room-for-requires
     slice-aggregate-show-answer
     slice-aggregate-show-answer-2
     show-answer-requires

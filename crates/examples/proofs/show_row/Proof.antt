@@ -1,13 +1,14 @@
 use borrow.Author.Needs.{needs}
 use Prim.Native.Nat.{_-_, _≤_}
+use lib.ListN.{length}
 use Rattle.examples.proofs.show_row.Statement.{statement}
 use Rattle.examples.proofs.show_row.Tie as tie
 
 abbrev Inv-loop : tie.InvT-loop
-Inv-loop report at end i₀ i = (end ≤ 1024) × (i ≤ 1024)
+Inv-loop report at end i₀ t5 i = (end ≤ length report) × (i ≤ length report)
 
 abbrev μ-loop : tie.MeasureT-loop
-μ-loop report at end i₀ i = end - i
+μ-loop report at end i₀ t5 i = end - i
 
 add-end : tie.Need-add-end Inv-loop μ-loop
 add-end c = search needs
@@ -30,6 +31,12 @@ loop-less c = search needs
 loop-again : tie.Need-loop-again Inv-loop μ-loop
 loop-again c = search needs
 
+slice-aggregate-write-all : tie.Need-slice-aggregate-write-all Inv-loop μ-loop
+slice-aggregate-write-all c = search needs
+
+write-all-requires : tie.Need-write-all-requires Inv-loop μ-loop
+write-all-requires c κs = search needs
+
 returns : tie.Need-returns Inv-loop μ-loop
 returns c = search needs
 
@@ -46,4 +53,6 @@ show-row-spec =
     add-i
     loop-less
     loop-again
+    slice-aggregate-write-all
+    write-all-requires
     returns)

@@ -1,31 +1,31 @@
+use Prim.Native.Nat.{_-_}
+use Rattle.report.proofs.Rows.{row-room}
 use borrow.Author.Needs.{needs}
-use Prim.Native.Nat.{_-_, _≤_}
 use Rattle.examples.proofs.show_rows.Statement.{statement}
 use Rattle.examples.proofs.show_rows.Tie as tie
 
 abbrev Inv-loop : tie.InvT-loop
-Inv-loop report end at₀ t4 at = at ≤ 1024
+Inv-loop report batches place₀ place = Unit {0}
 
 abbrev μ-loop : tie.MeasureT-loop
-μ-loop report end at₀ t4 at = 1024 - at
-
-loop-holds : tie.Need-loop-holds Inv-loop μ-loop
-loop-holds c = search needs
-
-add-loop : tie.Need-add-loop Inv-loop μ-loop
-add-loop c = search needs
+μ-loop report batches place₀ place = batches - place
 
 show-row-requires : tie.Need-show-row-requires Inv-loop μ-loop
 show-row-requires c κs = search needs
 
-slice-aggregate-write-all : tie.Need-slice-aggregate-write-all Inv-loop μ-loop
-slice-aggregate-write-all c = search needs
+loop-holds : tie.Need-loop-holds Inv-loop μ-loop
+loop-holds c = search needs
 
-write-all-requires : tie.Need-write-all-requires Inv-loop μ-loop
-write-all-requires c κs = search needs
+row-at-requires : tie.Need-row-at-requires Inv-loop μ-loop
+row-at-requires c κs = search needs
 
-add-at : tie.Need-add-at Inv-loop μ-loop
-add-at c = search needs
+show-row-requires-2 : tie.Need-show-row-requires-2 Inv-loop μ-loop
+show-row-requires-2 c κs =
+    let h = row-room _ _ _ 1024 (c .row-at .ensures) (c .before .before .loop-test .taken) (c .before .before .before .before .before .before .pre .1) in
+    search needs
+
+add-place : tie.Need-add-place Inv-loop μ-loop
+add-place c = search needs
 
 loop-less : tie.Need-loop-less Inv-loop μ-loop
 loop-less c = search needs
@@ -42,12 +42,11 @@ show-rows-spec =
     (tie.spec
     Inv-loop
     μ-loop
-    loop-holds
-    add-loop
     show-row-requires
-    slice-aggregate-write-all
-    write-all-requires
-    add-at
+    loop-holds
+    row-at-requires
+    show-row-requires-2
+    add-place
     loop-less
     loop-again
     returns)

@@ -1,29 +1,26 @@
+use Prim.Native.Nat.{_-_}
+use Rattle.report.proofs.Rows.{row-room}
 use borrow.Author.Needs.{needs}
-use lib.ListN.{length}
-use Prim.Native.Nat.{_≤_}
 use Rattle.srf_judge.proofs.show_batches.Statement.{statement}
 use Rattle.srf_judge.proofs.show_batches.Tie as tie
 
 abbrev Inv-loop : tie.InvT-loop
-Inv-loop report batches left₀ at₀ left at = at ≤ length report
+Inv-loop report batches place₀ place = Unit {0}
 
 abbrev μ-loop : tie.MeasureT-loop
-μ-loop report batches left₀ at₀ left at = left
+μ-loop report batches place₀ place = batches - place
 
 loop-holds : tie.Need-loop-holds Inv-loop μ-loop
 loop-holds c = search needs
 
-add-if1 : tie.Need-add-if1 Inv-loop μ-loop
-add-if1 c = search needs
+row-at-requires : tie.Need-row-at-requires Inv-loop μ-loop
+row-at-requires c κs = search needs
 
 show-row-requires : tie.Need-show-row-requires Inv-loop μ-loop
-show-row-requires c κs = search needs
+show-row-requires c κs = search (needs, row-room)
 
-add-at : tie.Need-add-at Inv-loop μ-loop
-add-at c = search needs
-
-sub-left : tie.Need-sub-left Inv-loop μ-loop
-sub-left c = search needs
+add-place : tie.Need-add-place Inv-loop μ-loop
+add-place c = search needs
 
 loop-less : tie.Need-loop-less Inv-loop μ-loop
 loop-less c = search needs
@@ -34,9 +31,6 @@ loop-again c = search needs
 returns : tie.Need-returns Inv-loop μ-loop
 returns c = search needs
 
-returns-2 : tie.Need-returns-2 Inv-loop μ-loop
-returns-2 c = search needs
-
 pub show-batches-spec : {M : Type 1} → statement M
 show-batches-spec =
     tie.close
@@ -44,11 +38,9 @@ show-batches-spec =
     Inv-loop
     μ-loop
     loop-holds
-    add-if1
+    row-at-requires
     show-row-requires
-    add-at
-    sub-left
+    add-place
     loop-less
     loop-again
-    returns
-    returns-2)
+    returns)
