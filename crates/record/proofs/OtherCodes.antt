@@ -9,38 +9,38 @@ use Rattle.record.specs.declared.codes.Code.{Code}
 use Rattle.record.specs.declared.codes.Code.the-variants.{FileHeader, Batch, Detail, Party, Account, Procurement, BatchTrailer, FileTrailer, Unknown}
 use Rattle.record.specs.Codes.{isDetail, isHeader, isTrailer}
 
-pub no-detail : (k : Code) → OneOf (0 ∷ 1 ∷ 3 ∷ 4 ∷ 5 ∷ 6 ∷ 7 ∷ 8 ∷ []) (tagOf Rattle.record.proofs.codes.Code.the-type k) → false ≡ isDetail k
+pub not-detail : (k : Code) → OneOf (0 ∷ 1 ∷ 3 ∷ 4 ∷ 5 ∷ 6 ∷ 7 ∷ 8 ∷ []) (tagOf Rattle.record.proofs.codes.Code.the-type k) → false ≡ isDetail k
 unfolding isDetail
-no-detail FileHeader h = refl
-no-detail (Batch l) h = refl
-no-detail (Detail l) h = absurd (miss (0 ∷ 1 ∷ 3 ∷ 4 ∷ 5 ∷ 6 ∷ 7 ∷ 8 ∷ []) 2 tt h)
-no-detail Party h = refl
-no-detail Account h = refl
-no-detail Procurement h = refl
-no-detail BatchTrailer h = refl
-no-detail FileTrailer h = refl
-no-detail Unknown h = refl
+not-detail FileHeader h = refl
+not-detail (Batch l) h = refl
+not-detail (Detail l) h = absurd (miss (0 ∷ 1 ∷ 3 ∷ 4 ∷ 5 ∷ 6 ∷ 7 ∷ 8 ∷ []) 2 tt h)
+not-detail Party h = refl
+not-detail Account h = refl
+not-detail Procurement h = refl
+not-detail BatchTrailer h = refl
+not-detail FileTrailer h = refl
+not-detail Unknown h = refl
 
-pub no-header : (k : Code) → OneOf (0 ∷ 2 ∷ 3 ∷ 4 ∷ 5 ∷ 6 ∷ 7 ∷ 8 ∷ []) (tagOf Rattle.record.proofs.codes.Code.the-type k) → false ≡ isHeader k
+pub not-header : (k : Code) → OneOf (0 ∷ 2 ∷ 3 ∷ 4 ∷ 5 ∷ 6 ∷ 7 ∷ 8 ∷ []) (tagOf Rattle.record.proofs.codes.Code.the-type k) → false ≡ isHeader k
 unfolding isHeader
-no-header FileHeader h = refl
-no-header (Batch l) h = absurd (miss (0 ∷ 2 ∷ 3 ∷ 4 ∷ 5 ∷ 6 ∷ 7 ∷ 8 ∷ []) 1 tt h)
-no-header (Detail l) h = refl
-no-header Party h = refl
-no-header Account h = refl
-no-header Procurement h = refl
-no-header BatchTrailer h = refl
-no-header FileTrailer h = refl
-no-header Unknown h = refl
+not-header FileHeader h = refl
+not-header (Batch l) h = absurd (miss (0 ∷ 2 ∷ 3 ∷ 4 ∷ 5 ∷ 6 ∷ 7 ∷ 8 ∷ []) 1 tt h)
+not-header (Detail l) h = refl
+not-header Party h = refl
+not-header Account h = refl
+not-header Procurement h = refl
+not-header BatchTrailer h = refl
+not-header FileTrailer h = refl
+not-header Unknown h = refl
 
-pub no-trailer : (k : Code) → OneOf (0 ∷ 1 ∷ 2 ∷ 3 ∷ 4 ∷ 5 ∷ 7 ∷ 8 ∷ []) (tagOf Rattle.record.proofs.codes.Code.the-type k) → false ≡ isTrailer k
+pub not-trailer : (k : Code) → OneOf (0 ∷ 1 ∷ 2 ∷ 3 ∷ 4 ∷ 5 ∷ 7 ∷ 8 ∷ []) (tagOf Rattle.record.proofs.codes.Code.the-type k) → false ≡ isTrailer k
 unfolding isTrailer
-no-trailer FileHeader h = refl
-no-trailer (Batch l) h = refl
-no-trailer (Detail l) h = refl
-no-trailer Party h = refl
-no-trailer Account h = refl
-no-trailer Procurement h = refl
-no-trailer BatchTrailer h = absurd (miss (0 ∷ 1 ∷ 2 ∷ 3 ∷ 4 ∷ 5 ∷ 7 ∷ 8 ∷ []) 6 tt h)
-no-trailer FileTrailer h = refl
-no-trailer Unknown h = refl
+not-trailer FileHeader h = refl
+not-trailer (Batch l) h = refl
+not-trailer (Detail l) h = refl
+not-trailer Party h = refl
+not-trailer Account h = refl
+not-trailer Procurement h = refl
+not-trailer BatchTrailer h = absurd (miss (0 ∷ 1 ∷ 2 ∷ 3 ∷ 4 ∷ 5 ∷ 7 ∷ 8 ∷ []) 6 tt h)
+not-trailer FileTrailer h = refl
+not-trailer Unknown h = refl

@@ -93,7 +93,7 @@ batch-length : (b : Batch) → length (batchLines b) ≡ length (before b) + 1
 batch-length b = ap length (batch-onto b []) ∙ length-append (before b) (b .trailer ∷ [])
 
 -- a legal batch ends with its first BT, whatever follows
-pub trailer-found-onto : (b : Batch) → LegalBatch b → (rest : List Record) → upToTrailer (batchOnto b rest) ≡ length (batchLines b)
+trailer-found-onto : (b : Batch) → LegalBatch b → (rest : List Record) → upToTrailer (batchOnto b rest) ≡ length (batchLines b)
 trailer-found-onto b g rest =
     ap upToTrailer (batch-onto b rest) ∙ up-to (before b) (b .trailer) rest (no-trailer b g) (g .trailer) ∙ sym (batch-length b)
 

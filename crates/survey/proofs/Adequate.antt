@@ -30,14 +30,14 @@ use Rattle.survey.specs.Survey.Surveyed.{legal, refused}
 use Rattle.survey.proofs.Details.{paid-divided}
 
 -- what the reader's answer about the records that are left comes to, n having been read
-summary : Going → ℕ → List Record → Verdict → Survey
-summary g n rs (Legal b p) =
+surveyBy : Going → ℕ → List Record → Verdict → Survey
+surveyBy g n rs (Legal b p) =
     record {
       nested = Legal b p;
       unclean = choose (eqb (g .unclean) 0) (firstUnclean (n + 1) rs) (g .unclean);
       total = split (worth (g .total) + paidIn rs);
     }
-summary g n rs (Refused k) = undivided k
+surveyBy g n rs (Refused k) = undivided k
 
 -- the first low byte stays the first
 noted : (u n v : ℕ) (r : Record) (rs : List Record) → v ≡ choose (eqb u 0) (choose (clean r) 0 n) u → 1 ≤ n
@@ -61,36 +61,36 @@ kept u = go (eqb u 0) refl
     go false e = rw e
 
 -- one record more
-summary-next : (g : Going) (n : ℕ) (r : Record) (rs : List Record) (v : Verdict) → summary (stepped (n + 1) r g) (n + 1) rs v ≡ summary g n (r ∷ rs) v
-unfolding summary stepped paidIn
-summary-next g n r rs (Legal b p) =
+survey-next : (g : Going) (n : ℕ) (r : Record) (rs : List Record) (v : Verdict) → surveyBy (stepped (n + 1) r g) (n + 1) rs v ≡ surveyBy g n (r ∷ rs) v
+unfolding surveyBy stepped paidIn
+survey-next g n r rs (Legal b p) =
     let u = noted (g .unclean) (n + 1) _ r rs refl (omega arith) in
     let t : worth (split (worth (g .total) + detailCents r)) + paidIn rs ≡ worth (g .total) + (detailCents r + paidIn rs) = rw worth-split (omega arith) in
     rw (← u, t)
-summary-next g n r rs (Refused k) = refl
+survey-next g n r rs (Refused k) = refl
 
 -- the pass says what the reader says, with what it found
-reads-on : (g : Going) (n : ℕ) (rs : List Record) → Whole (g .total) → surveyOn g n rs ≡ summary g n rs (readOn (g .state) n rs)
-unfolding surveyOn readOn summary stepped choose firstUnclean paidIn
+reads-on : (g : Going) (n : ℕ) (rs : List Record) → Whole (g .total) → surveyOn g n rs ≡ surveyBy g n rs (readOn (g .state) n rs)
+unfolding surveyOn readOn surveyBy stepped choose firstUnclean paidIn
 reads-on g n [] w = go (isAt (g .state) FileClosed)
   where
     go : (t : Bool) → choose t (record { nested = Legal (g .state .batches) (g .state .payments); unclean = g .unclean; total = g .total }) (undivided (n + 1))
-        ≡ summary g n [] (choose t (Legal (g .state .batches) (g .state .payments)) (Refused (n + 1)))
+        ≡ surveyBy g n [] (choose t (Legal (g .state .batches) (g .state .payments)) (Refused (n + 1)))
     go true =
         let z : worth (g .total) + 0 ≡ worth (g .total) = omega arith in
         rw (kept (g .unclean), z, ← whole-split (g .total) w)
     go false = refl
 reads-on g n (r ∷ rs) w = go (follows (g .state) r) (reads-on (stepped (n + 1) r g) (n + 1) rs (split-whole _))
   where
-    go : (t : Bool) → surveyOn (stepped (n + 1) r g) (n + 1) rs ≡ summary (stepped (n + 1) r g) (n + 1) rs (readOn (after (g .state) r) (n + 1) rs)
+    go : (t : Bool) → surveyOn (stepped (n + 1) r g) (n + 1) rs ≡ surveyBy (stepped (n + 1) r g) (n + 1) rs (readOn (after (g .state) r) (n + 1) rs)
         → choose t (surveyOn (stepped (n + 1) r g) (n + 1) rs) (undivided (n + 1))
-        ≡ summary g n (r ∷ rs) (choose t (readOn (after (g .state) r) (n + 1) rs) (Refused (n + 1)))
-    go true h = h ∙ summary-next g n r rs (readOn (after (g .state) r) (n + 1) rs)
+        ≡ surveyBy g n (r ∷ rs) (choose t (readOn (after (g .state) r) (n + 1) rs) (Refused (n + 1)))
+    go true h = h ∙ survey-next g n r rs (readOn (after (g .state) r) (n + 1) rs)
     go false h = refl
 
 -- what is found in the whole file is what is promised
-promised : (f : List ℕ) (v : Verdict) → Nested (records f) v → Surveyed f (summary begun 0 (records f) v)
-unfolding summary begun choose
+promised : (f : List ℕ) (v : Verdict) → Nested (records f) v → Surveyed f (surveyBy begun 0 (records f) v)
+unfolding surveyBy begun choose
 promised f v (Nested.legal d h) =
     let e : paidIn (records f) ≡ paidByAll (d .batches) = ap paidIn (sym (h .whole)) ∙ paid-divided d (h .legal) in
     let t : worth (split 0) + paidIn (records f) ≡ paidByAll (d .batches) = rw (worth-split 0) (omega (arith, e)) in

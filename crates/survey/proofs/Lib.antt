@@ -1,5 +1,5 @@
 mod Details
-mod Steps
+pub mod Steps
 mod Adequate
 mod Turns
 pub mod Theorems
