@@ -2,7 +2,6 @@
 use money::Amount;
 use money::Signed;
 use reasons::Finding;
-use record::Line;
 use rules::Context;
 ghost use mathlib.Core.Path.{_≡_};
 ghost use Rattle.money.specs.Money.{worth};
@@ -144,13 +143,11 @@ pub(crate) fn end(known: Finding, payment: Open) -> Finding
     requires { ⌜ Own 65535 payment ⌝ }
     ensures { λ r. ⌜ r ≡ after known (ended payment) ⌝ }
 {
-    let line = Line {
-        number: payment.number,
-    };
+    let number = payment.number;
     let accounts = account_reason(payment);
-    let after_accounts = reasons::note(known, accounts, line, 87);
+    let after_accounts = reasons::note(known, accounts, number, 87);
     let procurements = procurement_reason(payment);
-    let after_procurements = reasons::note(after_accounts, procurements, line, 96);
+    let after_procurements = reasons::note(after_accounts, procurements, number, 96);
     let lack = lack_reason(payment);
-    reasons::note(after_procurements, lack, line, 76)
+    reasons::note(after_procurements, lack, number, 76)
 }

@@ -297,8 +297,7 @@ fn procurement_findings(known: Finding, rec: &[u8], line: Line, payment: Open) -
     requires { ⌜ (length (now rec) ≡ 850) × Kept (payment .context) × (1 ≤ line .number) ⌝ }
     ensures { λ r. ⌜ r ≡ after known (nextProcurement payment (line .number) (seen line (now (rec .entry)))) ⌝ }
 {
-    let before = line.number - 1;
-    let earlier = Line { number: before };
+    let earlier = line.number - 1;
     let reason = first_reason(payment);
     let after_first = reasons::note(known, reason, earlier, 96);
     own_rules(after_first, rec, line, payment)
@@ -360,9 +359,7 @@ fn last_findings(known: Finding, rec: &[u8], line: Line, state: State) -> Findin
 {
     let header = state.header;
     let total = state.total;
-    let opening = Line {
-        number: header.number,
-    };
+    let opening = header.number;
     let limit = account_limit(state.accounts);
     let after_limit = reasons::note(known, limit, opening, 76);
     let none = lookups::location_only(false);

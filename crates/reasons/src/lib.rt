@@ -5,7 +5,6 @@ pub mod lists;
 pub mod lookups;
 pub mod values;
 
-use record::Line;
 ghost use mathlib.Core.Path.{_≡_};
 ghost use Rattle.reasons.specs.Findings.{found, noted};
 
@@ -35,9 +34,9 @@ pub struct Finding {
     pub field: usize,
 }
 
-// What is known so far, or else this reason of a field of the record.
-pub fn note(known: Finding, reason: usize, line: Line, field: usize) -> Finding
-    ensures { λ r. ⌜ r ≡ noted known (found reason (line .number) field) ⌝ }
+// What is known so far, or else this reason of a field of the record with this number.
+pub fn note(known: Finding, reason: usize, record_number: usize, field: usize) -> Finding
+    ensures { λ r. ⌜ r ≡ noted known (found reason «record_number» field) ⌝ }
 {
     if known.reason != 0 {
         return known;
@@ -45,7 +44,6 @@ pub fn note(known: Finding, reason: usize, line: Line, field: usize) -> Finding
     if reason == 0 {
         return known;
     }
-    let record_number = line.number;
     Finding {
         reason,
         record_number,

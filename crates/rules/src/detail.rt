@@ -22,9 +22,9 @@ fn start(known: Finding, rec: &[u8], line: Line, context: Context) -> Finding
     ensures { λ r. ⌜ r ≡ after known (findings context (line .number) (seen line (now (rec .entry))) (rows 23 24 N detail)) ⌝ }
 {
     let reason_23 = checks::unrepeated(rec, line, PAYMENT_ID, context.repeats);
-    let after_23 = reasons::note(known, reason_23, line, 23);
+    let after_23 = reasons::note(known, reason_23, line.number, 23);
     let reason_24 = amounts::positive(rec, line, AMOUNT);
-    reasons::note(after_23, reason_24, line, 24)
+    reasons::note(after_23, reason_24, line.number, 24)
 }
 
 // Fields 23 to 25 of DC.
@@ -42,11 +42,11 @@ fn start_c(known: Finding, rec: &[u8], line: Line, context: Context) -> Finding
         symbol,
         context.repeats,
     );
-    let after_23 = reasons::note(known, reason_23, line, 23);
+    let after_23 = reasons::note(known, reason_23, line.number, 23);
     let reason_24 = amounts::check_amount(rec, line, AMOUNT, voided);
-    let after_24 = reasons::note(after_23, reason_24, line, 24);
+    let after_24 = reasons::note(after_23, reason_24, line.number, 24);
     let reason_25 = lists::voided_check(rec, line, IS_VOIDED_CHECK);
-    reasons::note(after_24, reason_25, line, 25)
+    reasons::note(after_24, reason_25, line.number, 25)
 }
 
 // Fields 26 and 28.
@@ -56,9 +56,9 @@ fn payee(known: Finding, rec: &[u8], line: Line, context: Context) -> Finding
 {
     let codes = context.codes;
     let reason_26 = values::required(rec, line, PAYEE_NAME);
-    let after_26 = reasons::note(known, reason_26, line, 26);
+    let after_26 = reasons::note(known, reason_26, line.number, 26);
     let reason_28 = lookups::in_book(rec, line, PAYMENT_TYPE_CODE, codes.types);
-    reasons::note(after_26, reason_28, line, 28)
+    reasons::note(after_26, reason_28, line.number, 28)
 }
 
 // Fields 35 to 38.
@@ -68,11 +68,11 @@ fn address(known: Finding, rec: &[u8], line: Line, context: Context) -> Finding
 {
     let codes = context.codes;
     let reason_35 = lookups::if_in_book(rec, line, STATE_CODE, codes.states);
-    let after_35 = reasons::note(known, reason_35, line, 35);
+    let after_35 = reasons::note(known, reason_35, line.number, 35);
     let reason_36 = values::if_postal(rec, line, POSTAL_CODE);
-    let after_36 = reasons::note(after_35, reason_36, line, 36);
+    let after_36 = reasons::note(after_35, reason_36, line.number, 36);
     let reason_38 = lookups::if_in_book(rec, line, COUNTRY_CODE, codes.countries);
-    reasons::note(after_36, reason_38, line, 38)
+    reasons::note(after_36, reason_38, line.number, 38)
 }
 
 // Fields 43 to 62 of DN.
@@ -82,13 +82,13 @@ fn end_n(known: Finding, rec: &[u8], line: Line, context: Context) -> Finding
 {
     let codes = context.codes;
     let reason_43 = values::routing_number(rec, line, RECEIVING_DFI);
-    let after_43 = reasons::note(known, reason_43, line, 43);
+    let after_43 = reasons::note(known, reason_43, line.number, 43);
     let reason_48 = lists::transaction_code(rec, line, ACH_TRANSACTION_CODE);
-    let after_48 = reasons::note(after_43, reason_48, line, 48);
+    let after_48 = reasons::note(after_43, reason_48, line.number, 48);
     let reason_52 = lookups::if_in_book(rec, line, ORIGINAL_CURRENCY_CODE, codes.currencies);
-    let after_52 = reasons::note(after_48, reason_52, line, 52);
+    let after_52 = reasons::note(after_48, reason_52, line.number, 52);
     let reason_62 = lists::entry_class(rec, line, STANDARD_ENTRY_CLASS_CODE);
-    reasons::note(after_52, reason_62, line, 62)
+    reasons::note(after_52, reason_62, line.number, 62)
 }
 
 // Fields 42 to 52 of DW.
@@ -98,11 +98,11 @@ fn end_w(known: Finding, rec: &[u8], line: Line, context: Context) -> Finding
 {
     let codes = context.codes;
     let reason_42 = values::routing_number(rec, line, RECEIVING_DI);
-    let after_42 = reasons::note(known, reason_42, line, 42);
+    let after_42 = reasons::note(known, reason_42, line.number, 42);
     let reason_44 = lists::business_function(rec, line, BUSINESS_FUNCTION_CODE);
-    let after_44 = reasons::note(after_42, reason_44, line, 44);
+    let after_44 = reasons::note(after_42, reason_44, line.number, 44);
     let reason_52 = lookups::if_in_book(rec, line, ORIGINAL_CURRENCY_CODE, codes.currencies);
-    reasons::note(after_44, reason_52, line, 52)
+    reasons::note(after_44, reason_52, line.number, 52)
 }
 
 // Fields 51 and 52 of DI.
@@ -112,9 +112,9 @@ fn end_i(known: Finding, rec: &[u8], line: Line, context: Context) -> Finding
 {
     let codes = context.codes;
     let reason_51 = lists::payer_mechanism(rec, line, PAYER_MECHANISM);
-    let after_51 = reasons::note(known, reason_51, line, 51);
+    let after_51 = reasons::note(known, reason_51, line.number, 51);
     let reason_52 = lookups::if_in_book(rec, line, ORIGINAL_CURRENCY_CODE, codes.currencies);
-    reasons::note(after_51, reason_52, line, 52)
+    reasons::note(after_51, reason_52, line.number, 52)
 }
 
 // Fields 52 to 56 of DA.
@@ -124,13 +124,13 @@ fn end_a(known: Finding, rec: &[u8], line: Line, context: Context) -> Finding
 {
     let codes = context.codes;
     let reason_52 = lookups::if_in_book(rec, line, ORIGINAL_CURRENCY_CODE, codes.currencies);
-    let after_52 = reasons::note(known, reason_52, line, 52);
+    let after_52 = reasons::note(known, reason_52, line.number, 52);
     let reason_54 = values::required(rec, line, ORIGINAL_SCHEDULE_NUMBER);
-    let after_54 = reasons::note(after_52, reason_54, line, 54);
+    let after_54 = reasons::note(after_52, reason_54, line.number, 54);
     let reason_55 = values::required(rec, line, ORIGINAL_PAYMENT_ID);
-    let after_55 = reasons::note(after_54, reason_55, line, 55);
+    let after_55 = reasons::note(after_54, reason_55, line.number, 55);
     let reason_56 = values::dashed_day(rec, line, ORIGINAL_SUMMARY_DATE);
-    reasons::note(after_55, reason_56, line, 56)
+    reasons::note(after_55, reason_56, line.number, 56)
 }
 
 // Fields 26 to 29 of DC.
@@ -140,11 +140,11 @@ fn payee_c(known: Finding, rec: &[u8], line: Line, context: Context) -> Finding
 {
     let codes = context.codes;
     let reason_26 = values::required(rec, line, PAYEE_NAME);
-    let after_26 = reasons::note(known, reason_26, line, 26);
+    let after_26 = reasons::note(known, reason_26, line.number, 26);
     let reason_28 = lookups::in_book(rec, line, PAYMENT_TYPE_CODE, codes.types);
-    let after_28 = reasons::note(after_26, reason_28, line, 28);
+    let after_28 = reasons::note(after_26, reason_28, line.number, 28);
     let reason_29 = lookups::in_book(rec, line, PAYMENT_LOCATION_CODE, codes.locations);
-    reasons::note(after_28, reason_29, line, 29)
+    reasons::note(after_28, reason_29, line.number, 29)
 }
 
 // Fields 52 to 59 of DC.
@@ -155,11 +155,11 @@ fn end_c(known: Finding, rec: &[u8], line: Line, context: Context) -> Finding
     let codes = context.codes;
     let wanted = context.serial + context.payments;
     let reason_52 = lookups::if_in_book(rec, line, ORIGINAL_CURRENCY_CODE, codes.currencies);
-    let after_52 = reasons::note(known, reason_52, line, 52);
+    let after_52 = reasons::note(known, reason_52, line.number, 52);
     let reason_58 = checks::number_is(rec, line, CHECK_SERIAL_NUMBER, wanted, 7);
-    let after_58 = reasons::note(after_52, reason_58, line, 58);
+    let after_58 = reasons::note(after_52, reason_58, line.number, 58);
     let reason_59 = values::plain_day(rec, line, CHECK_ISSUE_DATE);
-    reasons::note(after_58, reason_59, line, 59)
+    reasons::note(after_58, reason_59, line.number, 59)
 }
 
 // Fields 26 to 38 of a detail other than DC.

@@ -21,13 +21,13 @@ fn start(known: Finding, rec: &[u8], line: Line, context: Context) -> Finding
     ensures { λ r. ⌜ r ≡ after known (findings context (line .number) (seen line (now (rec .entry))) (rows 6 9 N header)) ⌝ }
 {
     let reason_6 = checks::unrepeated(rec, line, SCHEDULE_NUMBER, context.repeats);
-    let after_6 = reasons::note(known, reason_6, line, 6);
+    let after_6 = reasons::note(known, reason_6, line.number, 6);
     let reason_7 = values::unbroken(rec, line, SUMMARY_NUMBER);
-    let after_7 = reasons::note(after_6, reason_7, line, 7);
+    let after_7 = reasons::note(after_6, reason_7, line.number, 7);
     let reason_8 = values::dashed_day(rec, line, SUMMARY_DATE);
-    let after_8 = reasons::note(after_7, reason_8, line, 8);
+    let after_8 = reasons::note(after_7, reason_8, line.number, 8);
     let reason_9 = values::number(rec, line, SUMMARY_TOTAL_AMOUNT);
-    reasons::note(after_8, reason_9, line, 9)
+    reasons::note(after_8, reason_9, line.number, 9)
 }
 
 // Fields 10 to 14 of BN.
@@ -37,11 +37,11 @@ fn end_n(known: Finding, rec: &[u8], line: Line, context: Context) -> Finding
 {
     let codes = context.codes;
     let reason_10 = lists::voucher_form(rec, line, VOUCHER_FORM_CODE);
-    let after_10 = reasons::note(known, reason_10, line, 10);
+    let after_10 = reasons::note(known, reason_10, line.number, 10);
     let reason_13 = values::routing_number(rec, line, ORIGINATING_DFI);
-    let after_13 = reasons::note(after_10, reason_13, line, 13);
+    let after_13 = reasons::note(after_10, reason_13, line.number, 13);
     let reason_14 = lookups::in_book(rec, line, AGENCY_LOCATION_CODE, codes.locations);
-    reasons::note(after_13, reason_14, line, 14)
+    reasons::note(after_13, reason_14, line.number, 14)
 }
 
 // Fields 10 to 14 of BW.
@@ -51,11 +51,11 @@ fn end_w(known: Finding, rec: &[u8], line: Line, context: Context) -> Finding
 {
     let codes = context.codes;
     let reason_10 = lists::voucher_form(rec, line, VOUCHER_FORM_CODE);
-    let after_10 = reasons::note(known, reason_10, line, 10);
+    let after_10 = reasons::note(known, reason_10, line.number, 10);
     let reason_12 = values::routing_number(rec, line, ORIGINATING_DI);
-    let after_12 = reasons::note(after_10, reason_12, line, 12);
+    let after_12 = reasons::note(after_10, reason_12, line.number, 12);
     let reason_14 = lookups::in_book(rec, line, AGENCY_LOCATION_CODE, codes.locations);
-    reasons::note(after_12, reason_14, line, 14)
+    reasons::note(after_12, reason_14, line.number, 14)
 }
 
 // Fields 10 to 14 of BI and BA.
@@ -65,9 +65,9 @@ fn end_other(known: Finding, rec: &[u8], line: Line, context: Context) -> Findin
 {
     let codes = context.codes;
     let reason_10 = lists::voucher_form(rec, line, VOUCHER_FORM_CODE);
-    let after_10 = reasons::note(known, reason_10, line, 10);
+    let after_10 = reasons::note(known, reason_10, line.number, 10);
     let reason_14 = lookups::in_book(rec, line, AGENCY_LOCATION_CODE, codes.locations);
-    reasons::note(after_10, reason_14, line, 14)
+    reasons::note(after_10, reason_14, line.number, 14)
 }
 
 // Fields 6 to 17 of BC.
@@ -84,13 +84,13 @@ fn start_c(known: Finding, rec: &[u8], line: Line, context: Context) -> Finding
         symbol,
         context.repeats,
     );
-    let after_6 = reasons::note(known, reason_6, line, 6);
+    let after_6 = reasons::note(known, reason_6, line.number, 6);
     let reason_15 = values::number(rec, line, DISBURSING_OFFICE_SYMBOL);
-    let after_15 = reasons::note(after_6, reason_15, line, 15);
+    let after_15 = reasons::note(after_6, reason_15, line.number, 15);
     let reason_16 = lists::courtesy_check(rec, line, IS_COURTESY_CHECK);
-    let after_16 = reasons::note(after_15, reason_16, line, 16);
+    let after_16 = reasons::note(after_15, reason_16, line.number, 16);
     let reason_17 = values::plain_day(rec, line, CHECK_BATCH_CREATION_DATE);
-    reasons::note(after_16, reason_17, line, 17)
+    reasons::note(after_16, reason_17, line.number, 17)
 }
 
 // Fields 18 to 20 of BC.
@@ -99,11 +99,11 @@ fn end_c(known: Finding, rec: &[u8], line: Line, context: Context) -> Finding
     ensures { λ r. ⌜ r ≡ after known (findings context (line .number) (seen line (now (rec .entry))) (rows 18 20 C header)) ⌝ }
 {
     let reason_18 = checks::check_symbol(rec, line, CHECK_SYMBOL_NUMBER);
-    let after_18 = reasons::note(known, reason_18, line, 18);
+    let after_18 = reasons::note(known, reason_18, line.number, 18);
     let reason_19 = values::number(rec, line, CHECK_FIRST_SERIAL_NUMBER);
-    let after_19 = reasons::note(after_18, reason_19, line, 19);
+    let after_19 = reasons::note(after_18, reason_19, line.number, 19);
     let reason_20 = values::month_and_year(rec, line, CHECK_ACCOUNTING_MONTH_AND_YEAR);
-    reasons::note(after_19, reason_20, line, 20)
+    reasons::note(after_19, reason_20, line.number, 20)
 }
 
 // The rules of a batch header.

@@ -24,7 +24,7 @@ fn party_name(known: Finding, rec: &[u8], line: Line, context: Context) -> Findi
     ensures { λ r. ⌜ r ≡ after known (findings context (line .number) (seen line (now (rec .entry))) (rulesFor N party)) ⌝ }
 {
     let reason_66 = values::required(rec, line, PARTY_NAME);
-    reasons::note(known, reason_66, line, 66)
+    reasons::note(known, reason_66, line.number, 66)
 }
 
 // A DX: the party's name, but not under DA.
@@ -75,11 +75,11 @@ fn account_start(known: Finding, rec: &[u8], line: Line, context: Context) -> Fi
     ensures { λ r. ⌜ r ≡ after known (findings context (line .number) (seen line (now (rec .entry))) (rows 80 85 N account)) ⌝ }
 {
     let reason_80 = if_reporter(rec, line, AGENCY_IDENTIFIER, context.reporter);
-    let after_80 = reasons::note(known, reason_80, line, 80);
+    let after_80 = reasons::note(known, reason_80, line.number, 80);
     let reason_84 = if_reporter(rec, line, MAIN_ACCOUNT_CODE, context.reporter);
-    let after_84 = reasons::note(after_80, reason_84, line, 84);
+    let after_84 = reasons::note(after_80, reason_84, line.number, 84);
     let reason_85 = if_reporter(rec, line, SUB_ACCOUNT_CODE, context.reporter);
-    reasons::note(after_84, reason_85, line, 85)
+    reasons::note(after_84, reason_85, line.number, 85)
 }
 
 // Fields 86 and 87.
@@ -95,9 +95,9 @@ fn account_end(known: Finding, rec: &[u8], line: Line, context: Context) -> Find
         context.reporter,
         codes.betcs,
     );
-    let after_86 = reasons::note(known, reason_86, line, 86);
+    let after_86 = reasons::note(known, reason_86, line.number, 86);
     let reason_87 = values::number(rec, line, ACCOUNT_AMOUNT);
-    reasons::note(after_86, reason_87, line, 87)
+    reasons::note(after_86, reason_87, line.number, 87)
 }
 
 // A DT.
@@ -115,7 +115,7 @@ pub fn procurement_rules(known: Finding, rec: &[u8], line: Line, context: Contex
     ensures { λ r. ⌜ r ≡ after known (findings context (line .number) (seen line (now (rec .entry))) (rulesFor N procurement)) ⌝ }
 {
     let reason_96 = values::number(rec, line, PROCUREMENT_AMOUNT);
-    reasons::note(known, reason_96, line, 96)
+    reasons::note(known, reason_96, line.number, 96)
 }
 
 // A payment's only DP, which may leave the amount blank.
@@ -124,7 +124,7 @@ pub fn lone_procurement_rules(known: Finding, rec: &[u8], line: Line, context: C
     ensures { λ r. ⌜ r ≡ after known (findings context (line .number) (seen line (now (rec .entry))) (rulesFor N loneProcurement)) ⌝ }
 {
     let reason_96 = values::if_number(rec, line, PROCUREMENT_AMOUNT);
-    reasons::note(known, reason_96, line, 96)
+    reasons::note(known, reason_96, line.number, 96)
 }
 
 // A BT: the count and the sum of the batch's payments.
@@ -133,7 +133,7 @@ pub fn trailer_rules(known: Finding, rec: &[u8], line: Line, context: Context) -
     ensures { λ r. ⌜ r ≡ after known (findings context (line .number) (seen line (now (rec .entry))) (rulesFor N trailer)) ⌝ }
 {
     let reason_99 = checks::number_is(rec, line, BATCH_TOTAL_COUNT, context.payments, 13);
-    let after_99 = reasons::note(known, reason_99, line, 99);
+    let after_99 = reasons::note(known, reason_99, line.number, 99);
     let reason_100 = amounts::amount_is(rec, line, BATCH_TOTAL_AMOUNT, context.total);
-    reasons::note(after_99, reason_100, line, 100)
+    reasons::note(after_99, reason_100, line.number, 100)
 }

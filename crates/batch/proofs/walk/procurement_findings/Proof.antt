@@ -4,8 +4,8 @@ use borrow.Author.Needs.{needs}
 use Rattle.batch.proofs.walk.procurement_findings.Statement.{statement}
 use Rattle.batch.proofs.walk.procurement_findings.Tie as tie
 
-sub-before : tie.Need-sub-before
-sub-before c = search needs
+sub-earlier : tie.Need-sub-earlier
+sub-earlier c = search needs
 
 first-reason-requires : tie.Need-first-reason-requires
 first-reason-requires c κs = search needs
@@ -22,4 +22,4 @@ returns c = search (needs, more)
 
 pub procurement-findings-spec : {M : Type 1} → statement M
 procurement-findings-spec =
-    tie.close (tie.spec sub-before first-reason-requires note-requires own-rules-requires returns)
+    tie.close (tie.spec sub-earlier first-reason-requires note-requires own-rules-requires returns)
