@@ -14,9 +14,8 @@ use Rattle.record.specs.Tests.{digits, alike}
 use Rattle.record.specs.Numeral.{numeral}
 use Rattle.record.proofs.Chain.{and-right}
 use Rattle.money.specs.Money.{cents}
-use Rattle.book.specs.declared.Book.{Book}
-use Rattle.book.specs.Book.{Contents, Lists, placed, standing, past}
-use Rattle.book.proofs.Chains.{shelves, lists-one}
+use Rattle.book.specs.Book.{Contents, listedAt}
+use Rattle.book.proofs.Chains.{listed-there, lists-one}
 use Rattle.nesting.specs.Division.{Division, lines, paymentCount}
 use Rattle.nesting.specs.Paid.{paidByAll}
 use Rattle.nesting.specs.Records.{records}
@@ -26,7 +25,7 @@ use Rattle.record.specs.Fields.{inputSystem, versionIdentifier, totalCountRecor
 use Rattle.verdict.specs.Answer.{numberOf, stated, version201, strange, numbered, Reason, acceptance, Of, Applies, Names, Judgement}
 use Rattle.verdict.specs.Answer.Reason.{Empty, Ragged, TooLong, BookUnsound, Nesting, InputSystem, Version, TrailerDigits, RecordCount, PaymentCount, TotalAmount}
 use Rattle.verdict.specs.Answer.Judgement.{accepted}
-use Rattle.verdict.specs.Order.{strangeIn, headerReason, numberedIn, trailerReason, fromTrailer, fromHeader, fromRoom, Known, Clear}
+use Rattle.verdict.specs.Order.{headerReason, numberedIn, trailerReason, fromTrailer, fromHeader, fromRoom, Known, Clear}
 use Rattle.verdict.proofs.Numbers.{among}
 use Rattle.verdict.proofs.Ends.{count-of, batches-few}
 use Rattle.verdict.proofs.Tests.{clear-start, clear-next, clear-of, Tested, where-holds, where-fails}
@@ -36,11 +35,6 @@ use Rattle.verdict.proofs.Tests.Tested.{passed}
 digits-worth : (xs : List ℕ) → digits xs ≡ true → cents xs ≡ numeral xs
 unfolding cents choose
 digits-worth xs e = rw e
-
--- the section of kind 1 lists the input systems
-strange-in : (book : List ℕ) (c : Contents) → Lists book c → (s : Book) → s ≡ placed c → (v : List ℕ) → strangeIn book (s .systems) v ≡ strange c v
-unfolding strangeIn strange placed standing past
-strange-in book c l s e v = rw (e, shelves book c l .systems .entries)
 
 module _ (file book : List ℕ) (room : ℕ) (v : Verdict) (k : Known file book v) where
   abbrev c : Contents
@@ -73,12 +67,13 @@ module _ (file book : List ℕ) (room : ℕ) (v : Verdict) (k : Known file book 
       (λ a. a (d, k .divided))
 
   -- FH
-  pub header-tested : Clear file book room fromHeader → Tested file book room fromTrailer 1 (headerReason book (v .shelves .systems) (d .header))
+  pub header-tested : Clear file book room fromHeader → Tested file book room fromTrailer 1 (headerReason (listedAt book (v .shelves)) (d .header))
   unfolding headerReason numberOf acceptance
   header-tested e =
       let x = held (d .header) inputSystem in
-      let same = strange-in book c (k .lists) (v .shelves) (ap (λ (u : Verdict). u .shelves) (k .accepts)) x in
-      where-holds file book room InputSystem (strangeIn book (v .shelves .systems) x) _ e refl
+      let there : listedAt book (v .shelves) ≡ c = ap (λ (u : Verdict). listedAt book (u .shelves)) (k .accepts) ∙ listed-there book c (k .lists) in
+      let same = ap (λ (c : Contents). strange c x) there in
+      where-holds file book room InputSystem (strange (listedAt book (v .shelves)) x) _ e refl
       (λ t. of-these (λ c d. strange c (held (d .header) inputSystem) ≡ true) (sym same ∙ t))
       (λ f a. true≢false (sym (of-others _ a) ∙ sym same ∙ f)) (λ e.
       where-fails file book room Version (alike (held (d .header) versionIdentifier) version201) 0 e refl

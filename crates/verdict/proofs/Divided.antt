@@ -10,11 +10,12 @@ use Rattle.record.specs.Choice.{choose}
 use Rattle.record.specs.Value.{seen}
 use Rattle.money.specs.Money.{worth, Whole}
 use Rattle.money.proofs.Amounts.{worth-split, whole-of}
-use Rattle.book.specs.Book.{Shelved, placed, past}
-use Rattle.book.proofs.Chains.{shelves}
+use Rattle.book.specs.Book.{placed, listedAt, Usable}
+use Rattle.book.specs.Book.Opened.{sound}
+use Rattle.book.proofs.Chains.{usable}
 use Rattle.nesting.specs.Division.{Record, Division}
 use Rattle.nesting.specs.Paid.{paidByAll}
-use Rattle.nesting.specs.Records.{records}
+use Rattle.nesting.specs.Records.{lineOf, records}
 use Rattle.characters.specs.Characters.{clean, firstUnclean}
 use Rattle.report.specs.Rows.{roomFor}
 use Rattle.verdict.specs.declared.Verdict.{Verdict}
@@ -51,20 +52,20 @@ module _ (file book : List ℕ) (v : Verdict) (k : Known file book v) where
   pub batches-small : v .batches < 65536
   batches-small = omega (arith, batched, k .cuttable .few, batches-few file (k .cuttable) d (k .divided))
 
-  pub systems-shelved : Shelved book (v .shelves .systems)
-  unfolding acceptance placed past
-  systems-shelved = subst (λ (u : Verdict). Shelved book (u .shelves .systems)) (sym (k .accepts)) (shelves book (k .contents) (k .lists) .systems .shelved)
+  pub book-usable : Usable book (v .shelves)
+  unfolding acceptance placed
+  book-usable = subst (λ (u : Verdict). Usable book (u .shelves)) (sym (k .accepts)) (usable book (placed (k .contents)) (sound (k .contents) (k .lists)) refl)
 
   pub total-whole : Whole (v .total)
   unfolding acceptance
   total-whole = whole-of (v .total) (paidByAll (d .batches)) (ap (λ (u : Verdict). u .total) (k .accepts))
 
   -- FH, as it is handed on
-  module _ (h : ℕ) (e : h ≡ headerReason book (v .shelves .systems) (seen (record { number = 1 }) (take 850 file))) where
+  module _ (h : ℕ) (e : h ≡ headerReason (listedAt book (v .shelves)) (seen (lineOf 1) (take 850 file))) where
     header-read : (room : ℕ) → Clear file book room fromHeader → Tested file book room fromTrailer 1 h
     header-read room c =
         subst (λ (r : ℕ). Tested file book room fromTrailer 1 r)
-        (sym (e ∙ ap (headerReason book (v .shelves .systems)) (header-first file (k .cuttable) d (k .divided)))) (header-tested file book room v k c)
+        (sym (e ∙ ap (headerReason (listedAt book (v .shelves))) (header-first file (k .cuttable) d (k .divided)))) (header-tested file book room v k c)
 
     pub header-refused : (h ≡ 0 → ⊥) → (u : Verdict) → u ≡ refusalBy h 1 → Framed file book u
     header-refused n u q = record { judged = λ room c. rw q (refused-by file book room (header-read room c) n) }
@@ -72,7 +73,7 @@ module _ (file book : List ℕ) (v : Verdict) (k : Known file book v) where
     -- FT, as it is handed on
     module _ (z : h ≡ 0) (t : ℕ)
         (f : t ≡ trailerReason (length file / 850) (v .payments) (worth (v .total))
-        (seen (record { number = length file / 850 }) (take (length file - (length file - 850)) (drop (length file - 850) file)))) where
+        (seen (lineOf (length file / 850)) (take (length file - (length file - 850)) (drop (length file - 850) file)))) where
       trailer-read : (room : ℕ) → Clear file book room fromHeader → Tested file book room [] (length file / 850) t
       unfolding acceptance
       trailer-read room c =

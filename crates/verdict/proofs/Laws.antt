@@ -13,7 +13,7 @@ use Rattle.record.proofs.Chain.{and-left, and-right}
 use Rattle.money.specs.declared.Amount.{Amount}
 use Rattle.money.specs.Money.{worth, split}
 use Rattle.money.proofs.Amounts.{worth-split}
-use Rattle.book.specs.declared.Section.{Section}
+use Rattle.book.specs.Book.{Contents}
 use Rattle.nesting.specs.Division.{Record}
 use Rattle.record.specs.Fields.{totalCountRecords, totalCount}
 use Rattle.verdict.specs.Answer.{numberOf}
@@ -29,9 +29,9 @@ pub length-small : (r n : ℕ) → r ≡ lengthReason n → r ≤ 13
 unfolding lengthReason numberOf
 length-small r n e = rw e (small _ 1 _ (omega arith) (small _ _ 2 (small _ 3 0 (omega arith) (omega arith)) (omega arith)))
 
-pub header-small : (r : ℕ) (book : List ℕ) (s : Section) (h : Record) → r ≡ headerReason book s h → r ≤ 13
+pub header-small : (r : ℕ) (c : Contents) (h : Record) → r ≡ headerReason c h → r ≤ 13
 unfolding headerReason numberOf
-header-small r book s h e = rw e (small _ 8 _ (omega arith) (small _ 0 9 (omega arith) (omega arith)))
+header-small r c h e = rw e (small _ 8 _ (omega arith) (small _ 0 9 (omega arith) (omega arith)))
 
 pub trailer-small : (r n p a : ℕ) (t : Record) → r ≡ trailerReason n p a t → r ≤ 13
 unfolding trailerReason numberOf

@@ -5,18 +5,17 @@ use mathlib.Core.Bool.{Bool}
 use mathlib.Core.List.{List, [], _∷_, _++_}
 use lib.Dec.{eqb, ltb}
 use lib.ListN.{length}
-use Rattle.record.specs.Choice.{_and_, _or_, choose}
+use Rattle.record.specs.Choice.{_and_, choose}
 use Rattle.record.specs.Value.{held}
-use Rattle.record.specs.Tests.{blank, digits, alike}
+use Rattle.record.specs.Tests.{digits, alike}
 use Rattle.record.specs.Numeral.{numeral}
 use Rattle.money.specs.Money.{split, cents}
-use Rattle.book.specs.declared.Section.{Section}
-use Rattle.book.specs.Book.{Contents, Lists, entriesAt, entryFor, isNone, shut}
+use Rattle.book.specs.Book.{Contents, Lists, shut}
 use Rattle.nesting.specs.Division.{Record, Division, DivisionOf}
 use Rattle.nesting.specs.Records.{Cuttable, records}
 use Rattle.verdict.specs.declared.Verdict.{Verdict}
 use Rattle.record.specs.Fields.{inputSystem, versionIdentifier, totalCountRecords, totalCount, totalAmount}
-use Rattle.verdict.specs.Answer.{Reason, numberOf, stated, acceptance, NoneOf, Judgement, version201}
+use Rattle.verdict.specs.Answer.{Reason, numberOf, stated, strange, acceptance, NoneOf, Judgement, version201}
 use Rattle.verdict.specs.Answer.Reason.{Empty, Ragged, TooLong, BookUnsound, Nesting, ReportShort, LowByte, InputSystem, Version, TrailerDigits, RecordCount, PaymentCount, TotalAmount}
 
 -- the refusal by its number
@@ -28,14 +27,10 @@ unfoldable pub lengthReason : ℕ → ℕ
 lengthReason n =
     choose (eqb n 0) (numberOf Empty) (choose (eqb (n % 850) 0) (choose (ltb 55704750 n) (numberOf TooLong) 0) (numberOf Ragged))
 
--- the InputSystem is blank or not in the section
-unfoldable pub strangeIn : List ℕ → Section → List ℕ → Bool
-strangeIn book s v = blank v or isNone (entryFor (s .code) (entriesAt book s) v)
-
 -- 8 and 9, by FH
-unfoldable pub headerReason : List ℕ → Section → Record → ℕ
-headerReason book s r =
-    choose (strangeIn book s (held r inputSystem)) (numberOf InputSystem) (choose (alike (held r versionIdentifier) version201) 0 (numberOf Version))
+unfoldable pub headerReason : Contents → Record → ℕ
+headerReason c r =
+    choose (strange c (held r inputSystem)) (numberOf InputSystem) (choose (alike (held r versionIdentifier) version201) 0 (numberOf Version))
 
 -- every number in FT is digits
 unfoldable pub numberedIn : Record → Bool

@@ -1,36 +1,36 @@
 // The tests of FH and of FT (01 File answers, 8 to 13).
 use crate::reason;
-use book::Section;
+use book::Book;
+use book::search::look_up;
 use money::Amount;
 use record::Line;
 use record::layout;
 ghost use mathlib.Core.Path.{_≡_};
 ghost use Prim.Native.Nat.{_≤_};
 ghost use lib.ListN.{length};
+ghost use Rattle.record.specs.Fields.{inputSystem};
 ghost use Rattle.record.specs.Value.{seen, held};
 ghost use Rattle.money.specs.Money.{worth, Whole};
-ghost use Rattle.book.specs.Book.{Shelved};
-ghost use Rattle.record.specs.Fields.{inputSystem};
-ghost use Rattle.verdict.specs.Order.{strangeIn, headerReason, numberedIn, trailerReason};
+ghost use Rattle.book.specs.Book.{Usable, listedAt};
+ghost use Rattle.verdict.specs.Answer.{strange};
+ghost use Rattle.verdict.specs.Order.{headerReason, numberedIn, trailerReason};
 
-// The InputSystem is blank or not in the section.
-fn is_strange(book: &[u8], systems: Section, rec: &[u8], line: Line) -> bool
-    requires { ⌜ Shelved (now book) systems × (850 ≤ length (now rec)) ⌝ }
-    ensures { λ r. ⌜ r ≡ strangeIn (now (book .entry)) systems (held (seen line (now (rec .entry))) inputSystem) ⌝ }
+// The InputSystem is blank or not in the book.
+fn is_strange(book: &[u8], shelves: Book, rec: &[u8], line: Line) -> bool
+    requires { ⌜ Usable (now book) shelves × (850 ≤ length (now rec)) ⌝ }
+    ensures { λ r. ⌜ r ≡ strange (listedAt (now (book .entry)) shelves) (held (seen line (now (rec .entry))) inputSystem) ⌝ }
 {
-    if record::field_blank(rec, line, layout::INPUT_SYSTEM) {
-        return true;
-    }
-    let entry = book::search::find(book, systems, rec, line, layout::INPUT_SYSTEM);
-    entry.len() == 0
+    let systems = shelves.systems;
+    let system = look_up(book, systems, rec, line, layout::INPUT_SYSTEM);
+    !system.listed
 }
 
 // 8 or 9 by FH, or 0.
-pub(crate) fn header_reason(book: &[u8], systems: Section, rec: &[u8], line: Line) -> u64
-    requires { ⌜ Shelved (now book) systems × (850 ≤ length (now rec)) ⌝ }
-    ensures { λ r. ⌜ r ≡ headerReason (now (book .entry)) systems (seen line (now (rec .entry))) ⌝ }
+pub(crate) fn header_reason(book: &[u8], shelves: Book, rec: &[u8], line: Line) -> u64
+    requires { ⌜ Usable (now book) shelves × (850 ≤ length (now rec)) ⌝ }
+    ensures { λ r. ⌜ r ≡ headerReason (listedAt (now (book .entry)) shelves) (seen line (now (rec .entry))) ⌝ }
 {
-    if is_strange(book, systems, rec, line) {
+    if is_strange(book, shelves, rec, line) {
         return reason::INPUT_SYSTEM;
     }
     if record::field_is(rec, line, layout::VERSION_IDENTIFIER, b"\xF2\xF0\xF1") {

@@ -85,8 +85,7 @@ fn judge_frame(file: &[u8], book: &[u8], accepted: Verdict) -> Verdict
     ensures { λ r. ⌜ Framed (now (file .entry)) (now (book .entry)) r ⌝ }
 {
     let shelves = accepted.shelves;
-    let systems = shelves.systems;
-    let header = frame::header_reason(book, systems, &file[0..850], Line { number: 1 });
+    let header = frame::header_reason(book, shelves, &file[0..850], Line { number: 1 });
     if header != 0 {
         return refuse(header, 1);
     }

@@ -1,23 +1,16 @@
-use Rattle.verdict.specs.Order.{strangeIn}
-use Rattle.record.proofs.Chain.{chain, reads}
-use Rattle.book.proofs.Lookup.{none-is}
+use Rattle.book.specs.Book.{listedAt}
+use Rattle.book.proofs.Lookup.{said-as, unlisted}
+use Rattle.verdict.specs.Answer.{strange}
 use borrow.Author.Needs.{needs}
 use Rattle.verdict.proofs.frame.is_strange.Statement.{statement}
 use Rattle.verdict.proofs.frame.is_strange.Tie as tie
 
-field-blank-requires : tie.Need-field-blank-requires
-field-blank-requires c κs = search needs
+look-up-requires : tie.Need-look-up-requires
+look-up-requires c κs = let u = c .before .before .before .pre .0 in (u .systems .shelved, search needs)
 
 returns : tie.Need-returns
-unfolding strangeIn
-returns c = search (needs, chain, reads)
-
-find-requires : tie.Need-find-requires
-find-requires c κs = search needs
-
-returns-2 : tie.Need-returns-2
-unfolding strangeIn
-returns-2 c = search (needs, chain, reads, none-is)
+unfolding strange listedAt
+returns c = unlisted _ _ _ _ (said-as _ _ _ _ _ (c .before .before .before .before .before .pre .0 .systems) (c .before .look-up .ensures))
 
 pub is-strange-spec : {M : Type 1} → statement M
-is-strange-spec = tie.close (tie.spec field-blank-requires returns find-requires returns-2)
+is-strange-spec = tie.close (tie.spec look-up-requires returns)
