@@ -4,7 +4,6 @@ use mathlib.Core.Path.{_≡_}
 use mathlib.Core.Bool.{Bool}
 use mathlib.Core.List.{List, [], _∷_, _++_}
 use lib.Dec.{eqb, ltb}
-use lib.ListN.{length}
 use Rattle.record.specs.Choice.{_and_, _or_, choose}
 use Rattle.record.specs.Value.{held}
 use Rattle.record.specs.Tests.{blank, digits, alike}
