@@ -10,12 +10,12 @@ use Rattle.record.specs.declared.codes.Letter.{Letter}
 use Rattle.record.specs.declared.codes.Letter.the-variants.{N}
 use Rattle.record.specs.declared.codes.Code.{Code}
 use Rattle.record.specs.declared.codes.Code.the-variants as code
+use Rattle.record.specs.Fields.{paymentId}
 use Rattle.record.specs.Value.{held}
 use Rattle.record.specs.Codes.{letterByte, codeBytes, codeOf}
 use Rattle.money.specs.Money.{split, total}
 use Rattle.money.proofs.Amounts.{worth-split}
 use Rattle.book.specs.Book.{Contents}
-use Rattle.record.specs.Fields.{paymentId}
 use Rattle.nesting.specs.Division.{Record, All, DX, DT, DP, Own, Payment, Batch, paymentOnto, paymentsOnto, LegalPayment, LegalBatch}
 use Rattle.nesting.specs.Paid.{paid, paidBy}
 use Rattle.nesting.proofs.Coding.{of-bytes, lettered}

@@ -14,11 +14,11 @@ use Rattle.record.specs.declared.codes.Letter.the-variants.{N, C, W, I, A}
 use Rattle.record.specs.declared.codes.Code.{Code}
 use Rattle.record.specs.declared.codes.Code.the-variants as code
 use Rattle.record.specs.Choice.{_and_, _or_, choose}
+use Rattle.record.specs.Fields.{paymentId}
 use Rattle.record.specs.Value.{held}
 use Rattle.record.specs.Tests.{blank}
 use Rattle.record.specs.Codes.{letterByte, codeBytes, isDetail}
 use Rattle.book.specs.Book.{Contents}
-use Rattle.record.specs.Fields.{paymentId}
 use Rattle.nesting.specs.Division.{Record, All, Own, Coded, batchCode, Payment, Batch, LegalPayment, LegalBatch, paymentOnto, paymentsOnto, batchLines}
 use Rattle.nesting.proofs.Coding.{of-bytes, lettered}
 use Rattle.repeats.specs.declared.Repeat.{Repeat}

@@ -6,7 +6,7 @@
 //     code 7 46 40       the bytes of the code book from 7 to 46, again and again
 //     file 849           the bytes of the file, where they are not all
 //     book 41            the bytes of the code book
-//     report 127         the bytes of the report space, where they are not 64 for the head and for each batch
+//     report 127         the bytes of the report space, where they are not the room that its batches need
 //
 // The first letter tells what an item is; batches stand before the others.
 use crate::changes;

@@ -1,5 +1,4 @@
 // The table of cases, text in ASCII. A row is a label of 48 columns, then items, each a word that names it and the words that it takes.
-ghost use mathlib.Core.Path.{_≡_};
 ghost use Prim.Native.Nat.{_≤_, _<_};
 ghost use lib.ListN.{length};
 

@@ -9,6 +9,7 @@ use lib.Dec.{eqb}
 use lib.ListN.{length, replicate, length-replicate}
 use borrow.Author.Tests.{eqb-true, eqb-false}
 use Rattle.record.specs.Choice.{choose}
+use Rattle.record.specs.Fields.{totalCountRecords, totalCount, totalAmount}
 use Rattle.record.specs.Value.{held}
 use Rattle.record.specs.Numeral.{numeral}
 use Rattle.book.specs.Book.{Contents, Lists}
@@ -18,7 +19,6 @@ use Rattle.nesting.specs.Records.{records, Cuttable}
 use Rattle.nesting.specs.Promise.{RefusedAt}
 use Rattle.nesting.proofs.Cuts.{cut-length}
 use Rattle.characters.specs.Characters.{clean, firstUnclean}
-use Rattle.record.specs.Fields.{totalCountRecords, totalCount, totalAmount}
 use Rattle.verdict.specs.Answer.{Reason, numberOf, stated, Applies, Names, NoneOf, Refused}
 use Rattle.verdict.proofs.Numbers.{one-reason}
 use Rattle.verdict.proofs.Theorems.{same-place}

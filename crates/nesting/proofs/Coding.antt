@@ -11,8 +11,8 @@ use Rattle.record.specs.declared.codes.Letter.{Letter}
 use Rattle.record.specs.declared.codes.Letter.the-variants.{N, C, W, I, A}
 use Rattle.record.specs.declared.codes.Code.{Code}
 use Rattle.record.specs.declared.codes.Code.the-variants.{FileHeader, Batch, Detail, Party, Account, Procurement, BatchTrailer, FileTrailer, Unknown}
-use Rattle.record.specs.Value.{held}
 use Rattle.record.specs.Fields.{recordCode}
+use Rattle.record.specs.Value.{held}
 use Rattle.record.specs.Codes.{letterByte, codeBytes, codeIn, codes, codeOf, letterIn}
 use Rattle.record.proofs.CodeList.{codes-apart, code-bytes}
 use Rattle.nesting.specs.declared.reader.Place.{Place}

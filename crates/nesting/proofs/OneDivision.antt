@@ -7,9 +7,9 @@ use Rattle.record.specs.declared.codes.Letter.{Letter}
 use Rattle.record.specs.declared.codes.Code.{Code}
 use Rattle.record.specs.declared.codes.Code.the-variants.{FileHeader, Detail, Party, Account, Procurement, BatchTrailer, FileTrailer, Unknown}
 use Rattle.record.specs.declared.codes.Code.the-variants as code
+use Rattle.record.specs.Fields.{paymentId}
 use Rattle.record.specs.Value.{held}
 use Rattle.record.specs.Codes.{letterByte, codeBytes}
-use Rattle.record.specs.Fields.{paymentId}
 use Rattle.nesting.specs.Division.{Record, All, batchCode, detailCode, Coded, Own, Payment, Batch, Division, paymentsOnto, batchesOnto, LegalPayment, LegalBatch, DivisionOf}
 use Rattle.nesting.proofs.Coding.{of-bytes, lettered}
 

@@ -11,6 +11,7 @@ use Rattle.record.specs.declared.codes.Letter.{Letter}
 use Rattle.record.specs.declared.codes.Code.{Code}
 use Rattle.record.specs.declared.codes.Code.the-variants.{FileHeader, Batch, Detail, Party, Account, Procurement, BatchTrailer, FileTrailer, Unknown}
 use Rattle.record.specs.Choice.{_and_, _or_, choose}
+use Rattle.record.specs.Fields.{paymentId}
 use Rattle.record.specs.Value.{held}
 use Rattle.record.specs.Codes.{codeOf, letterByte}
 use Rattle.record.proofs.Chain.{and-left, and-right}
@@ -18,7 +19,6 @@ use Rattle.record.proofs.Same.{alike-equal, alike-self}
 use Rattle.nesting.specs.declared.reader.Place.{Place}
 use Rattle.nesting.specs.declared.reader.Place.the-variants.{Start, FileOpen, BatchOpen, PaymentOpen, BatchClosed}
 use Rattle.nesting.specs.declared.reader.State.{State}
-use Rattle.record.specs.Fields.{paymentId}
 use Rattle.nesting.specs.Division.{Record}
 use Rattle.nesting.specs.Reader.{placeNumber, isAt, sameLetter, isCheck, besides, complete, owns, opensBatch, opensPayment, takesParty, takesAccount, takesProcurement, fits, follows}
 use Rattle.nesting.proofs.Coding.{at-place, same-letter}

@@ -6,8 +6,8 @@ use Prim.Native.Nat.{ℕ, zero, suc, _<_}
 use native.Mathlib.Omega.{arith}
 use lib.ListN.{length, take, drop, replicate, length-append, length-replicate, length-take, length-drop}
 use lib.Seq.{take-at, drop-at}
-use Rattle.record.specs.Value.{held}
 use Rattle.record.specs.Fields.{paymentId}
+use Rattle.record.specs.Value.{held}
 use Rattle.nesting.specs.Division.{Record, All, Coded, Whole}
 
 -- of the members of a beginning, of an end, of two lists, of equal ones

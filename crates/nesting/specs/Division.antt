@@ -4,8 +4,8 @@ use mathlib.Core.Logic.{_⊎_}
 use mathlib.Core.List.{List, [], _∷_, _++_}
 use Prim.Native.Nat.{ℕ, _+_, _<_, _≤_}
 use lib.ListN.{length}
-use Rattle.record.specs.Value.{held}
 use Rattle.record.specs.Fields.{recordCode, paymentId}
+use Rattle.record.specs.Value.{held}
 
 -- a record is the list of its bytes
 abbrev pub Record : Type 0

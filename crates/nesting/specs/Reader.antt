@@ -9,6 +9,7 @@ use Rattle.record.specs.declared.codes.Letter.the-variants.{N}
 use Rattle.record.specs.declared.codes.Code.{Code}
 use Rattle.record.specs.declared.codes.Code.the-variants.{FileHeader, Batch, Detail, Party, Account, Procurement, BatchTrailer, FileTrailer, Unknown}
 use Rattle.record.specs.Choice.{_and_, _or_, choose}
+use Rattle.record.specs.Fields.{paymentId}
 use Rattle.record.specs.Value.{held}
 use Rattle.record.specs.Tests.{alike}
 use Rattle.record.specs.Codes.{letterByte, codeOf}
@@ -17,7 +18,6 @@ use Rattle.nesting.specs.declared.Verdict.the-variants.{Legal, Refused}
 use Rattle.nesting.specs.declared.reader.Place.{Place}
 use Rattle.nesting.specs.declared.reader.Place.the-variants.{Start, FileOpen, BatchOpen, PaymentOpen, BatchClosed, FileClosed}
 use Rattle.nesting.specs.declared.reader.State.{State}
-use Rattle.record.specs.Fields.{paymentId}
 use Rattle.nesting.specs.Division.{Record}
 
 -- a number for each place, by which two are compared

@@ -7,9 +7,9 @@ ghost use mathlib.Core.Path.{_≡_};
 ghost use mathlib.Core.Bool.{true};
 ghost use Prim.Native.Nat.{_<_, _≤_};
 ghost use lib.ListN.{length};
+ghost use Rattle.record.specs.Fields.{paymentId};
 ghost use Rattle.record.specs.Value.{seen, held};
 ghost use Rattle.record.specs.Codes.{letterByte};
-ghost use Rattle.record.specs.Fields.{paymentId};
 ghost use Rattle.nesting.specs.Reader.{placeNumber, isAt, sameLetter, besides, complete, owns, opensBatch, opensPayment, takesParty, takesAccount, takesProcurement, fits, start, moved, inBatch, inPayment, taken, next};
 
 // Where the reader stands.

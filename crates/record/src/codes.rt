@@ -4,8 +4,8 @@ use crate::layout::RECORD_CODE;
 ghost use mathlib.Core.Path.{_≡_};
 ghost use Prim.Native.Nat.{_≤_};
 ghost use lib.ListN.{length};
-ghost use Rattle.record.specs.Value.{seen, held};
 ghost use Rattle.record.specs.Fields.{recordCode};
+ghost use Rattle.record.specs.Value.{seen, held};
 ghost use Rattle.record.specs.Codes.{codeOf, codeIn, details, batches, frames, isDetail, isHeader, isTrailer, letterIn};
 
 // The kind of a batch and of its details.

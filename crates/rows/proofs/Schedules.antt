@@ -9,9 +9,9 @@ use Rattle.record.specs.declared.codes.Code.{Code}
 use Rattle.record.specs.declared.codes.Code.the-variants.{FileHeader, Detail, Party, Account, Procurement, BatchTrailer}
 use Rattle.record.specs.declared.codes.Code.the-variants as code
 use Rattle.record.specs.Choice.{choose}
+use Rattle.record.specs.Fields.{paymentId}
 use Rattle.record.specs.Value.{held}
 use Rattle.record.specs.Codes.{letterByte, codeBytes, isHeader}
-use Rattle.record.specs.Fields.{paymentId}
 use Rattle.nesting.specs.Division.{Record, All, FH, batchCode, detailCode, Coded, Own, Payment, Batch, paymentsOnto, batchesOnto, LegalPayment, LegalBatch}
 use Rattle.nesting.proofs.Coding.{of-bytes, lettered}
 use Rattle.repeats.specs.declared.Sort.the-variants.{Batches}

@@ -10,6 +10,7 @@ use Rattle.record.specs.declared.Line.{Line}
 use Rattle.record.specs.declared.codes.Code.{Code}
 use Rattle.record.specs.declared.codes.Code.the-variants as code
 use Rattle.record.specs.Choice.{choose}
+use Rattle.record.specs.Fields.{amount}
 use Rattle.record.specs.Value.{seen, held}
 use Rattle.record.specs.Codes.{codeOf, codeBytes, isDetail}
 use Rattle.record.proofs.Held.{held-length}
@@ -17,7 +18,6 @@ use Rattle.money.specs.declared.Amount.{Amount}
 use Rattle.money.specs.Money.{split, cents, total}
 use Rattle.money.proofs.Amounts.{cents-below}
 use Rattle.nesting.specs.Division.{Record, All, Among, letters, Coded, Own, batchCode, detailCode, Payment, Batch, Division, paymentOnto, paymentsOnto, batchOnto, batchesOnto, lines, LegalPayment, LegalBatch, LegalFile}
-use Rattle.record.specs.Fields.{amount}
 use Rattle.nesting.specs.Paid.{paid, paidBy, paidByAll}
 use Rattle.nesting.proofs.Coding.{of-bytes, lettered}
 use Rattle.survey.specs.Pass.{detailCents, paidIn}

@@ -10,13 +10,13 @@ use Rattle.record.specs.declared.Line.{Line}
 use Rattle.record.specs.declared.codes.Code.{Code}
 use Rattle.record.specs.declared.codes.Code.the-variants.{FileHeader, Batch, Detail, Party, Account, Procurement, BatchTrailer, FileTrailer, Unknown}
 use Rattle.record.specs.Choice.{choose}
+use Rattle.record.specs.Fields.{paymentId}
 use Rattle.record.specs.Value.{seen, held}
 use Rattle.record.specs.Codes.{codeOf}
 use Rattle.money.specs.declared.Amount.{Amount}
 use Rattle.money.specs.Money.{worth, split, Fit}
 use Rattle.money.proofs.Amounts.{worth-split, split-whole}
 use Rattle.nesting.specs.declared.reader.State.{State}
-use Rattle.record.specs.Fields.{paymentId}
 use Rattle.nesting.specs.Division.{Record}
 use Rattle.nesting.specs.Reader.{start, next, after, moved, inBatch, inPayment, taken}
 use Rattle.characters.specs.Characters.{clean}

@@ -9,11 +9,11 @@ use borrow.Author.Tests.{not-true, not-false}
 use lib.ListN.{length, drop, getD}
 use Rattle.record.specs.declared.codes.Code.{Code}
 use Rattle.record.specs.Choice.{choose}
+use Rattle.record.specs.Fields.{paymentId}
 use Rattle.record.specs.Value.{held}
 use Rattle.record.specs.Codes.{codeOf}
 use Rattle.nesting.specs.declared.Verdict.the-variants.{Legal}
 use Rattle.nesting.specs.declared.reader.Place.the-variants.{FileClosed}
-use Rattle.record.specs.Fields.{paymentId}
 use Rattle.nesting.specs.Division.{Record}
 use Rattle.nesting.specs.Records.{lineOf, cut, records, Cuttable}
 use Rattle.nesting.specs.Reader.{isAt, fits, follows}

@@ -3,13 +3,13 @@ use Prim.Native.Nat.{ℕ, _+_, _*_, _<_}
 use mathlib.Core.List.{List, [], _∷_}
 use lib.Dec.{eqb}
 use Rattle.record.specs.Choice.{choose}
+use Rattle.record.specs.Fields.{amount}
 use Rattle.record.specs.Value.{held}
 use Rattle.record.specs.Codes.{codeOf, isDetail}
 use Rattle.money.specs.Money.{worth, split, cents, Whole}
 use Rattle.nesting.specs.declared.Verdict.the-variants.{Legal}
 use Rattle.nesting.specs.declared.reader.Place.the-variants.{FileClosed}
 use Rattle.nesting.specs.Division.{Record}
-use Rattle.record.specs.Fields.{amount}
 use Rattle.nesting.specs.Reader.{isAt, start, follows, after}
 use Rattle.characters.specs.Characters.{clean}
 use Rattle.survey.specs.declared.Survey.{Survey}

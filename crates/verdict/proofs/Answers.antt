@@ -9,6 +9,7 @@ use lib.Dec.{eqb}
 use borrow.Author.Tests.{eqb-true, eqb-false}
 use lib.ListN.{length}
 use Rattle.record.specs.Choice.{choose}
+use Rattle.record.specs.Fields.{inputSystem, versionIdentifier, totalCountRecords, totalCount, totalAmount}
 use Rattle.record.specs.Value.{held}
 use Rattle.record.specs.Tests.{digits, alike}
 use Rattle.record.specs.Numeral.{numeral}
@@ -21,7 +22,6 @@ use Rattle.nesting.specs.Paid.{paidByAll}
 use Rattle.nesting.specs.Records.{records}
 use Rattle.nesting.proofs.OneDivision.{one-division}
 use Rattle.verdict.specs.declared.Verdict.{Verdict}
-use Rattle.record.specs.Fields.{inputSystem, versionIdentifier, totalCountRecords, totalCount, totalAmount}
 use Rattle.verdict.specs.Answer.{numberOf, stated, version201, strange, numbered, Reason, acceptance, Of, Applies, Names, Judgement}
 use Rattle.verdict.specs.Answer.Reason.{Empty, Ragged, TooLong, BookUnsound, Nesting, InputSystem, Version, TrailerDigits, RecordCount, PaymentCount, TotalAmount}
 use Rattle.verdict.specs.Answer.Judgement.{accepted}

@@ -2,11 +2,11 @@
 -- Assumes nothing.
 use mathlib.Core.Path.{_≡_, sym, _∙_, ap}
 use mathlib.Core.Bool.{Bool, true, false}
-use mathlib.Core.List.{List}
 use Prim.Native.Nat.{ℕ, _≤_}
 use native.Mathlib.Omega.{arith}
 use lib.Dec.{eqb}
 use Rattle.record.specs.Choice.{choose}
+use Rattle.record.specs.Fields.{totalCountRecords, totalCount}
 use Rattle.record.specs.Value.{held}
 use Rattle.record.specs.Tests.{digits}
 use Rattle.record.proofs.Chain.{and-left, and-right}
@@ -15,7 +15,6 @@ use Rattle.money.specs.Money.{worth, split}
 use Rattle.money.proofs.Amounts.{worth-split}
 use Rattle.book.specs.Book.{Contents}
 use Rattle.nesting.specs.Division.{Record}
-use Rattle.record.specs.Fields.{totalCountRecords, totalCount}
 use Rattle.verdict.specs.Answer.{numberOf}
 use Rattle.verdict.specs.Order.{lengthReason, headerReason, numberedIn, trailerReason}
 

@@ -4,8 +4,8 @@ use mathlib.Core.Path.{_≡_}
 use mathlib.Core.Bool.{Bool}
 use mathlib.Core.List.{List, [], _∷_, _++_}
 use lib.Dec.{eqb, ltb}
-use lib.ListN.{length}
 use Rattle.record.specs.Choice.{_and_, choose}
+use Rattle.record.specs.Fields.{inputSystem, versionIdentifier, totalCountRecords, totalCount, totalAmount}
 use Rattle.record.specs.Value.{held}
 use Rattle.record.specs.Tests.{digits, alike}
 use Rattle.record.specs.Numeral.{numeral}
@@ -14,7 +14,6 @@ use Rattle.book.specs.Book.{Contents, Lists, shut}
 use Rattle.nesting.specs.Division.{Record, Division, DivisionOf}
 use Rattle.nesting.specs.Records.{Cuttable, records}
 use Rattle.verdict.specs.declared.Verdict.{Verdict}
-use Rattle.record.specs.Fields.{inputSystem, versionIdentifier, totalCountRecords, totalCount, totalAmount}
 use Rattle.verdict.specs.Answer.{Reason, numberOf, stated, strange, acceptance, NoneOf, Judgement, version201}
 use Rattle.verdict.specs.Answer.Reason.{Empty, Ragged, TooLong, BookUnsound, Nesting, ReportShort, LowByte, InputSystem, Version, TrailerDigits, RecordCount, PaymentCount, TotalAmount}
 

@@ -1,9 +1,9 @@
 use Prim.Native.Nat.{_≤_, _-_}
 use mathlib.Core.Path.{_≡_}
 use lib.ListN.{length, take}
+use Rattle.record.specs.Fields.{checkSymbolNumber}
 use Rattle.record.specs.Value.{held, seen}
 use Rattle.record.proofs.Held.{held-length}
-use Rattle.record.specs.Fields.{checkSymbolNumber}
 use Rattle.record.proofs.Copies.{copy-more, copy-whole}
 use borrow.Author.Needs.{needs}
 use Rattle.rules.proofs.symbol_of.Statement.{statement}

@@ -3,10 +3,10 @@ use Rattle.nesting.proofs.reader.is_own.Tie as tie
 use Prim.Native.Nat.{_≤_, _-_}
 use mathlib.Core.Path.{_≡_}
 use lib.ListN.{length}
+use Rattle.record.specs.Fields.{paymentId}
 use Rattle.record.specs.Value.{held, seen}
 use Rattle.record.proofs.Held.{held-length}
 use Rattle.record.proofs.Same.{Both, both-none, same-more, same-stop, same-whole}
-use Rattle.record.specs.Fields.{paymentId}
 use Rattle.nesting.specs.Reader.{owns}
 use borrow.Author.Needs.{needs}
 
