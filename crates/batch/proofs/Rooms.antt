@@ -128,6 +128,3 @@ module _ (o : Open) (r : Own 65535 o) where
 
   pub amount-room : Fit (o .amount) (o .sum .negative)
   amount-room = record { left = r .amount .whole; right = r .negative; room = omega (arith, r .sum, r .amount .worth) }
-
-  pub procured-room : (a : Amount) → Small 1 a → Fit (o .procured) a
-  procured-room a t = fit-small 65535 (o .procured) a (omega arith) (r .procured) t
