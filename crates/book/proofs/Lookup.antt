@@ -1,6 +1,6 @@
 -- A section's entries, and what a binary search among them knows.
 -- Assumes nothing.
-use mathlib.Core.Path.{_≡_, refl, sym, ap, _∙_}
+use mathlib.Core.Path.{_≡_, refl, sym, _∙_}
 use mathlib.Core.Bool.{Bool, true, false, not}
 use mathlib.Core.List.{List, [], _∷_}
 use mathlib.Core.Logic.{⊎-elim}
@@ -15,7 +15,7 @@ use Rattle.record.specs.declared.Field.{Field}
 use Rattle.record.specs.declared.Order.{Order}
 use Rattle.record.specs.declared.Order.the-variants.{Before, Same, After}
 use Rattle.record.specs.Value.{Has, held, seen}
-use Rattle.record.specs.Choice.{_or_, choose}
+use Rattle.record.specs.Choice.{choose}
 use Rattle.record.specs.Tests.{blank, alike}
 use Rattle.record.specs.Ordering.{order}
 use Rattle.record.proofs.Chain.{and-left, and-right, choose-yes, choose-no}
@@ -232,12 +232,6 @@ said-of width es v e r b h q = q ∙ rw (h, b)
 pub said-as : (bytes : List ℕ) (k : Kind) (s : Section) (v : List ℕ) (r : Listing) → ShelvedAs bytes k s → r ≡ listing (s .code) (entriesAt bytes s) v → r ≡ listing (k .code) (entriesAt bytes s) v
 said-as bytes k s v r a h = h ∙ rw (a .coded)
 
--- nothing is listed for a blank field, nor for one whose code has no entry
-pub unlisted : (width : ℕ) (es : List (List ℕ)) (v : List ℕ) (r : Listing) → r ≡ listing width es v → not (r .listed) ≡ (blank v or isNone (entryFor width es v))
-unfolding listing said isNone choose _or_
-unlisted width es v r h = ap (λ (x : Listing). not (x .listed)) h ∙ go (blank v) (isNone (entryFor width es v))
-  where
-    go : (t u : Bool) → not (choose t (said []) (record { listed = not u; flagged = flagOf (entryFor width es v) }) .listed) ≡ (t or u)
-    go true u = refl
-    go false true = refl
-    go false false = refl
+-- an entry that was found in a section of a kind
+pub none-in : (bytes : List ℕ) (k : Kind) (s : Section) (v e : List ℕ) → ShelvedAs bytes k s → e ≡ entryFor (s .code) (entriesAt bytes s) v → eqb (length e) 0 ≡ isNone (entryFor (k .code) (entriesAt bytes s) v)
+none-in bytes k s v e a h = none-is e _ (h ∙ rw (a .coded))

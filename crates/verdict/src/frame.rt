@@ -1,7 +1,7 @@
 // The tests of FH and of FT (01 File answers, 8 to 13).
 use crate::reason;
 use book::Book;
-use book::search::look_up;
+use book::search::find;
 use money::Amount;
 use record::Line;
 use record::layout;
@@ -20,9 +20,12 @@ fn is_strange(book: &[u8], shelves: Book, rec: &[u8], line: Line) -> bool
     requires { ⌜ Usable (now book) shelves × (850 ≤ length (now rec)) ⌝ }
     ensures { λ r. ⌜ r ≡ strange (listedAt (now (book .entry)) shelves) (held (seen line (now (rec .entry))) inputSystem) ⌝ }
 {
+    if record::field_blank(rec, line, layout::INPUT_SYSTEM) {
+        return true;
+    }
     let systems = shelves.systems;
-    let system = look_up(book, systems, rec, line, layout::INPUT_SYSTEM);
-    !system.listed
+    let entry = find(book, systems, rec, line, layout::INPUT_SYSTEM);
+    entry.len() == 0
 }
 
 // 8 or 9 by FH, or 0.
