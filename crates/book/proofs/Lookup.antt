@@ -17,7 +17,7 @@ use Rattle.record.specs.declared.Order.the-variants.{Before, Same, After}
 use Rattle.record.specs.Value.{Has, held, seen}
 use Rattle.record.specs.Choice.{choose}
 use Rattle.record.specs.Tests.{blank, alike}
-use Rattle.record.specs.Ordering.{order}
+use Rattle.record.specs.Ordering.{order, isBefore}
 use Rattle.record.proofs.Chain.{and-left, and-right, choose-yes, choose-no}
 use Rattle.record.proofs.Same.{alike-equal, alike-self}
 use Rattle.record.proofs.Orders.{order-equal, order-self, order-transitive}
@@ -26,7 +26,7 @@ use Rattle.book.specs.declared.Section.{Section}
 use Rattle.book.specs.declared.search.Listing.{Listing}
 use Rattle.book.proofs.Bytes.{before}
 use Rattle.book.proofs.Entries.{cut-count}
-use Rattle.book.specs.Book.{lent, entryCode, isBefore, follow, ascend, cut, entriesAt, Shelved, entryFor, isNone, flagOf, said, listing, ShelvedAs}
+use Rattle.book.specs.Book.{lent, entryCode, follow, ascend, cut, entriesAt, Shelved, entryFor, isNone, flagOf, said, listing, ShelvedAs}
 
 -- an entry among those that are cut
 cut-at : (w n : ℕ) (xs : List ℕ) (j : ℕ) → j < n → getD (cut w n xs) j [] ≡ take w (drop (j * w) xs)

@@ -13,9 +13,9 @@ use lib.Seq.{slice-cons, slice-empty, getD-drop}
 use Rattle.record.specs.declared.Order.{Order}
 use Rattle.record.specs.Choice.{_and_}
 use Rattle.record.specs.Tests.{every}
-use Rattle.record.specs.Ordering.{order}
+use Rattle.record.specs.Ordering.{order, isBefore}
 use Rattle.book.specs.declared.Section.{Section}
-use Rattle.book.specs.Book.{entryCode, flagged, isBefore, follow, ascend, cut, entriesAt}
+use Rattle.book.specs.Book.{entryCode, flagged, follow, ascend, cut, entriesAt}
 use Rattle.book.specs.Reading.{flags}
 use Rattle.book.proofs.Bytes.{before, next-place, cut-next, cut-none}
 

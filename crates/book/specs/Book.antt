@@ -7,12 +7,10 @@ use lib.Dec.{leb, eqb}
 use lib.ListN.{length, take, drop, getD}
 use Rattle.numbers.specs.Numbers.{little}
 use Rattle.record.specs.declared.Line.{Line}
-use Rattle.record.specs.declared.Order.{Order}
-use Rattle.record.specs.declared.Order.the-variants.{Before, Same, After}
 use Rattle.record.specs.Choice.{_and_, choose}
 use Rattle.record.specs.Value.{held, seen}
 use Rattle.record.specs.Tests.{every, blank, alike}
-use Rattle.record.specs.Ordering.{order}
+use Rattle.record.specs.Ordering.{order, isBefore}
 use Rattle.book.specs.declared.Kind.{Kind}
 use Rattle.book.specs.declared.Section.{Section}
 use Rattle.book.specs.declared.Book.{Book}
@@ -51,12 +49,6 @@ entryCode width e = held (seen lent e) (record { start = 1; width = width })
 -- a flag is 1 or 0 (CARS Reporter or not, credit or debit)
 unfoldable pub flagged : ℕ → List ℕ → Bool
 flagged width e = every (λ (x : ℕ). leb x 1) (drop width e)
-
--- the first stands before the second in the order of bytes
-unfoldable pub isBefore : Order → Bool
-isBefore Before = true
-isBefore Same = false
-isBefore After = false
 
 -- codes strictly ascend by bytes; e is the entry before these
 unfoldable pub follow : ℕ → List ℕ → List (List ℕ) → Bool

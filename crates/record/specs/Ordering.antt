@@ -1,5 +1,6 @@
 -- The order of values by bytes (01 Code book): the first byte that differs decides, and a beginning stands before the whole.
 use Prim.Native.Nat.{ℕ}
+use mathlib.Core.Bool.{Bool, true, false}
 use mathlib.Core.List.{List, [], _∷_}
 use lib.Dec.{ltb}
 use Rattle.record.specs.declared.Order.{Order}
@@ -12,3 +13,9 @@ order [] [] = Same
 order [] (y ∷ ys) = Before
 order (x ∷ xs) [] = After
 order (x ∷ xs) (y ∷ ys) = choose (ltb x y) Before (choose (ltb y x) After (order xs ys))
+
+-- the first stands before the second
+unfoldable pub isBefore : Order → Bool
+isBefore Before = true
+isBefore Same = false
+isBefore After = false

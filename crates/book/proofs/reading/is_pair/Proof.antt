@@ -1,5 +1,6 @@
 use Rattle.record.specs.declared.Order.the-variants.{Before, Same, After}
-use Rattle.book.specs.Book.{entryCode, isBefore}
+use Rattle.record.specs.Ordering.{isBefore}
+use Rattle.book.specs.Book.{entryCode}
 use Rattle.book.proofs.Walks.{told-pair}
 use borrow.Author.Needs.{needs}
 use Rattle.book.proofs.reading.is_pair.Statement.{statement}

@@ -1,0 +1,115 @@
+// Sorted tables of places: records in ascending order of what a field of theirs holds, each value once. A table is lent, so its size is the
+// caller's.
+use record::Field;
+use record::Line;
+use record::Order;
+ghost use mathlib.Core.Path.{_≡_};
+ghost use Prim.Native.Nat.{_*_, _<_, _≤_};
+ghost use lib.ListN.{length};
+ghost use Rattle.record.specs.Ordering.{order};
+ghost use Rattle.tables.specs.Tables.{Stands, InRecord, Tabled, valueAt, kept, member, rank, insertedAt, entryOf, tableAfter};
+
+// What became of a record: whether the table held its value before, and how many places the table holds after it.
+pub struct Entry {
+    pub known: bool,
+    pub count: usize,
+}
+
+// Where a value stands in a table, or would stand.
+struct Seat {
+    at: usize,
+    taken: bool,
+}
+
+// How what the field holds in the record at one place stands to what it holds at another.
+fn compare(file: &[u8], first: usize, place: usize, other: usize, field: Field) -> Order
+    requires { ⌜ Stands first place (now file) × Stands first other (now file) × InRecord field ⌝ }
+    ensures { λ r. ⌜ r ≡ order (valueAt first field (now (file .entry)) place) (valueAt first field (now (file .entry)) other) ⌝ }
+{
+    let from = place * 850;
+    let to = from + 850;
+    let number = first + place;
+    let at = other * 850;
+    let end = at + 850;
+    let own = first + other;
+    record::fields_order(
+        &file[from..to],
+        Line { number },
+        field,
+        &file[at..end],
+        Line { number: own },
+        field,
+    )
+}
+
+// Where the record's value stands among the first `count` places of the table: binary search.
+fn seek(file: &[u8], first: usize, place: usize, field: Field, table: &[u16], count: usize) -> Seat
+    requires { ⌜ Tabled first field (now file) (now table) count × Stands first place (now file) × InRecord field ⌝ }
+    ensures at { λ r. ⌜ r .at ≡ rank (valueAt first field (now (file .entry)) place) (kept first field (now (file .entry)) (now (table .entry)) count) ⌝ }
+    ensures taken { λ r. ⌜ r .taken ≡ member (valueAt first field (now (file .entry)) place) (kept first field (now (file .entry)) (now (table .entry)) count) ⌝ }
+{
+    let mut low: usize = 0;
+    let mut high = count;
+    while low < high {
+        let middle = low + (high - low) / 2;
+        let other = table[middle] as usize;
+        match compare(file, first, other, place, field) {
+            Order::Before => {
+                low = middle + 1;
+            }
+            Order::After => {
+                high = middle;
+            }
+            Order::Same => {
+                return Seat {
+                    at: middle,
+                    taken: true,
+                };
+            }
+        }
+    }
+    Seat {
+        at: low,
+        taken: false,
+    }
+}
+
+// Puts the place into the table at the seat; the places from there on move up.
+fn insert(table: &mut [u16], count: usize, seat: usize, place: usize)
+    requires { ⌜ (count < length (now table)) × (length (now table) ≤ 65536) × (seat ≤ count) × (place < 65536) ⌝ }
+    ensures { λ r. ⌜ now (table .exit) ≡ insertedAt (now (table .entry)) count seat place ⌝ }
+{
+    let mut i = count;
+    while seat < i {
+        table[i] = table[i - 1];
+        i -= 1;
+    }
+    table[seat] = place as u16;
+}
+
+// Enters the record at the place into the table's first `count` places, unless its value is there already or the table is full.
+pub fn enter(
+    file: &[u8],
+    first: usize,
+    place: usize,
+    field: Field,
+    table: &mut [u16],
+    count: usize,
+) -> Entry
+    requires { ⌜ Tabled first field (now file) (now table) count × Stands first place (now file) × (place < 65536) × InRecord field ⌝ }
+    ensures answer { λ r. ⌜ r ≡ entryOf first field (now (file .entry)) (now (table .entry)) count place ⌝ }
+    ensures after { λ r. ⌜ now (table .exit) ≡ tableAfter first field (now (file .entry)) (now (table .entry)) count place ⌝ }
+{
+    let seat = seek(file, first, place, field, table, count);
+    if seat.taken {
+        return Entry { known: true, count };
+    }
+    if count < table.len() {
+        insert(table, count, seat.at, place);
+        return Entry {
+            known: false,
+            count: count + 1,
+        };
+    }
+    Entry { known: false, count }
+}
