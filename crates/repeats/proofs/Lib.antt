@@ -4,6 +4,7 @@ mod Greatest
 mod Walks
 pub mod Looks
 mod Firsts
+pub mod Schedules
 mod Hashes
 mod Marks
 mod Classes

@@ -1,6 +1,6 @@
--- A look at one record: the greatest number so far stays the greatest, and what stands after it repeats nothing.
+-- One record more: the greatest number so far stays the greatest, and what stands after it repeats nothing.
 -- Assumes nothing.
-use mathlib.Core.Path.{_≡_, refl, sym}
+use mathlib.Core.Path.{_≡_, refl}
 use mathlib.Core.Bool.{Bool, true, false}
 use mathlib.Core.List.{List, [], _∷_, _++_, append-nil}
 use Prim.Native.Nat.{ℕ, _+_}
@@ -12,9 +12,8 @@ use Rattle.nesting.specs.Division.{Record}
 use Rattle.nesting.specs.Records.{cut, recordAt}
 use Rattle.nesting.proofs.Cuts.{cut-snoc}
 use Rattle.repeats.specs.declared.Sort.{Sort}
-use Rattle.repeats.specs.declared.Sort.the-variants.{Batches}
 use Rattle.repeats.specs.Repeats.{numbering, isOf, numbers, repeats, Topped}
-use Rattle.repeats.specs.Places.{isAfter, rises, raised, looked}
+use Rattle.repeats.specs.Places.{isAfter, rises, raised}
 use Rattle.repeats.proofs.Greatest.{topped-miss, topped-keep, topped-raise}
 
 -- the numbers of one record more
@@ -55,26 +54,3 @@ topped-none greatest = tt
 pub topped-start : (sort : Sort) (first : ℕ) (xs greatest : List ℕ) → Topped greatest (numbers sort (cut first 0 xs))
 unfolding numbers cut
 topped-start sort first xs greatest = topped-none greatest
-
--- what `look_at_batch` promises is what it asks for at the next record
-pub looked-topped : (file : List ℕ) (place : ℕ) (greatest : List ℕ) → Topped greatest (numbers Batches (cut 1 place file))
-    → Topped (looked file place greatest .greatest) (numbers Batches (cut 1 (place + 1) file))
-unfolding looked
-looked-topped file place greatest t = topped-next Batches 1 place file greatest t
-
--- its three results
-module _ (file : List ℕ) (place : ℕ) (greatest : List ℕ) where
-  pub look-other : isOf Batches (recordAt 1 place file) ≡ false → record { repeats = false; greatest = greatest } ≡ looked file place greatest
-  unfolding looked repeats raised rises choose _and_
-  look-other o = sym (rw o)
-
-  module _ (o : isOf Batches (recordAt 1 place file) ≡ true) where
-    pub look-up : (x : List ℕ) → x ≡ held (recordAt 1 place file) (numbering Batches) → isAfter (order (held (recordAt 1 place file) (numbering Batches)) greatest) ≡ true
-        → Topped greatest (numbers Batches (cut 1 place file)) → record { repeats = false; greatest = x } ≡ looked file place greatest
-    unfolding looked raised rises choose _and_
-    look-up x e a t = rw (after-new Batches 1 place file greatest t a, o, a, e)
-
-    pub look-back : (r : Bool) → r ≡ repeats Batches (cut 1 place file) (recordAt 1 place file) → isAfter (order (held (recordAt 1 place file) (numbering Batches)) greatest) ≡ false
-        → record { repeats = r; greatest = greatest } ≡ looked file place greatest
-    unfolding looked raised rises choose _and_
-    look-back r e a = rw (o, a, e)

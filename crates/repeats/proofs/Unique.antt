@@ -3,10 +3,6 @@
 use mathlib.Core.Path.{sym, _∙_}
 use Rattle.record.proofs.Unique.{OneResult}
 use Rattle.repeats.proofs.first_repeat.Reads as first-repeat
-use Rattle.repeats.proofs.look_at_batch.Reads as look-at-batch
 
 pub first-repeat-unique : OneResult first-repeat.Post
 first-repeat-unique κs a r s x y p q = p ∙ sym q
-
-pub look-at-batch-unique : OneResult look-at-batch.Post
-look-at-batch-unique κs a r s x y p q = p ∙ sym q

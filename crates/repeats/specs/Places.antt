@@ -9,12 +9,10 @@ use Rattle.record.specs.Choice.{_and_, choose}
 use Rattle.record.specs.Value.{held}
 use Rattle.record.specs.Ordering.{order}
 use Rattle.nesting.specs.Division.{Record}
-use Rattle.nesting.specs.Records.{cut, recordAt}
 use Rattle.repeats.specs.declared.Sort.{Sort}
-use Rattle.repeats.specs.declared.Sort.the-variants.{Payments, Batches}
-use Rattle.repeats.specs.declared.Look.{Look}
+use Rattle.repeats.specs.declared.Sort.the-variants.{Payments}
 use Rattle.repeats.specs.declared.walk.Climbing.{Climbing}
-use Rattle.repeats.specs.Repeats.{numbering, isOf, repeats}
+use Rattle.repeats.specs.Repeats.{numbering, isOf}
 
 -- the bytes have a whole record at the place, and its number is small
 abbrev pub Stands : ℕ → ℕ → List ℕ → Type 0
@@ -33,10 +31,6 @@ rises sort r greatest = isOf sort r and isAfter (order (held r (numbering sort))
 -- the greatest number after one record more
 unfoldable pub raised : Sort → Record → List ℕ → List ℕ
 raised sort r greatest = choose (rises sort r greatest) (held r (numbering sort)) greatest
-
--- what a look at the record at the place finds: whether it repeats an earlier batch's number, and the greatest number after it
-unfoldable pub looked : List ℕ → ℕ → List ℕ → Look
-looked file place greatest = record { repeats = repeats Batches (cut 1 place file) (recordAt 1 place file); greatest = raised Batches (recordAt 1 place file) greatest }
 
 -- what one record does to a climb: whether it is a detail whose ID does not stand after the greatest, and the greatest ID after it
 unfoldable pub climbed : Record → List ℕ → Climbing

@@ -1,15 +1,16 @@
 // Numbers that repeat an earlier one (01 Batch reasons, 6).
+mod flags;
 mod sieve;
 mod walk;
 
 ghost use mathlib.Core.Path.{_≡_};
 ghost use mathlib.Core.List.{[]};
-ghost use Prim.Native.Nat.{_+_, _*_, _/_, _<_, _≤_};
+ghost use Prim.Native.Nat.{_*_, _/_, _≤_};
 ghost use lib.ListN.{length};
 ghost use Rattle.nesting.specs.Records.{cut};
-ghost use Rattle.repeats.specs.declared.Sort.the-variants.{Payments, Batches};
-ghost use Rattle.repeats.specs.Repeats.{numbers, firstRepeat, Topped};
-ghost use Rattle.repeats.specs.Places.{looked};
+ghost use Rattle.repeats.specs.declared.Sort.the-variants.{Payments};
+ghost use Rattle.repeats.specs.Repeats.{firstRepeat};
+ghost use Rattle.repeats.specs.Schedules.{Batched, Noted, numbersBefore, numbersFrom, numbered, flagged};
 
 // What is numbered: payments by Payment ID, batches by schedule number.
 pub enum Sort {
@@ -23,33 +24,50 @@ pub enum Repeat {
     Nowhere,
 }
 
-// Whether a record repeats an earlier batch's schedule number, and the greatest schedule number after it.
-pub struct Look {
+// What is known of a batch's schedule number: whether an earlier batch has it, the greatest number while they rise, and whether the batches are
+// marked.
+pub struct Numbering {
     pub repeats: bool,
     pub greatest: [u8; 14],
+    pub marked: bool,
 }
 
-// Whether the record repeats the schedule number of an earlier batch in the file (01 Batch reasons, 6). No earlier number stands after
-// the greatest, so the earlier records are walked only where a batch's number does not stand after it either.
-pub fn look_at_batch(file: &[u8], place: usize, greatest: [u8; 14]) -> Look
-    requires { ⌜ (place * 850 + 850 ≤ length (now file)) × (place < 65535) × Topped greatest (numbers Batches (cut 1 place (now file))) ⌝ }
-    ensures { λ r. ⌜ r ≡ looked (now (file .entry)) place greatest ⌝ }
+// Whether an earlier batch has the schedule number of the batch whose header stands at the place (01 Batch reasons, 6). While the numbers
+// rise, none repeats; the first that does not has all batches from it on marked, each by a byte of the flags, and from then on the flags tell.
+pub fn number_batch(
+    file: &[u8],
+    place: usize,
+    greatest: [u8; 14],
+    marked: bool,
+    flags: &mut [u8],
+) -> Numbering
+    requires { ⌜ Batched (now file) place (now flags) × Noted (numbersBefore (now file) place) (numbersFrom (now file) place) greatest marked (now flags) ⌝ }
+    ensures answer { λ r. ⌜ r ≡ numbered (now (file .entry)) place greatest marked ⌝ }
+    ensures after { λ r. ⌜ now (flags .exit) ≡ flagged (now (file .entry)) place greatest marked (now (flags .entry)) ⌝ }
 {
-    if !walk::is_of(file, 1, place, Sort::Batches) {
-        return Look {
-            repeats: false,
+    if marked {
+        let repeats = flags[0] == 1;
+        return Numbering {
+            repeats,
             greatest,
+            marked,
         };
     }
     if walk::is_after(file, 1, place, Sort::Batches, &greatest) {
         let number = walk::schedule_number(file, 1, place);
-        return Look {
+        return Numbering {
             repeats: false,
             greatest: number,
+            marked,
         };
     }
-    let repeats = walk::is_repeated(file, 1, place, Sort::Batches);
-    Look { repeats, greatest }
+    flags::mark_batches(file, place, flags);
+    let repeats = flags[0] == 1;
+    Numbering {
+        repeats,
+        greatest,
+        marked: true,
+    }
 }
 
 // The first record of the part that repeats an earlier Payment ID in it (01 Batch reasons, 6); the part's first record has the number

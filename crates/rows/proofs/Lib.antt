@@ -1,7 +1,8 @@
 mod Schedules
-mod Trailers
 mod Places
 mod Judging
+mod Overs
+mod Flagging
 mod Sizes
 mod Reported
 mod Turns

@@ -2,17 +2,12 @@
 -- Assumes nothing.
 use mathlib.Core.Path.{_≡_, _∙_}
 use mathlib.Core.List.{List, [], _∷_, _++_, append-assoc}
-use Prim.Native.Nat.{ℕ, _+_, _≤_}
+use Prim.Native.Nat.{ℕ, _+_}
 use native.Mathlib.Omega.{arith}
 use lib.ListN.{length, drop, length-append}
 use Rattle.report.specs.Rows.{rowBytes, rowsBytes, rowAt, roomFor, over}
-use Rattle.report.proofs.Rows.{Eights, rows-snoc, head-length, rows-end, room-end, over-more}
+use Rattle.report.proofs.Rows.{Eights, head-length, room-end, over-more}
 use Rattle.rows.specs.Report.{reported}
-
--- rows stand behind the head of the report `first`, and one more behind them
-pub rows-next : (first : List ℕ) (rows : List (List ℕ)) (row : List ℕ) → Eights rows → rowAt 0 ≤ length first
-    → over (over first (rowAt 0) (rowsBytes rows)) (rowAt (length rows)) (rowBytes row) ≡ over first (rowAt 0) (rowsBytes (rows ++ row ∷ []))
-rows-next first rows row h k = rw (← rows-end rows h, rows-snoc rows row) (over-more first (rowAt 0) (rowsBytes rows) (rowBytes row) k)
 
 -- a report with the head, and then with the rows, is the report of both
 pub reported-is : (before head : List ℕ) (rows : List (List ℕ)) → length head ≡ 8 → Eights rows

@@ -12,7 +12,7 @@ payments-size : (ps : List Payment) (rs : List Record) → length (paymentsOnto 
 payments-size [] rs = omega arith
 payments-size (p ∷ ps) rs = simp length-append (omega (arith, payments-size ps rs))
 
-batches-size : (bs : List Batch) (rs : List Record) → length (batchesOnto bs rs) ≡ length (batchesOnto bs []) + length rs
+pub batches-size : (bs : List Batch) (rs : List Record) → length (batchesOnto bs rs) ≡ length (batchesOnto bs []) + length rs
 batches-size [] rs = omega arith
 batches-size (b ∷ bs) rs =
     omega (arith, payments-size (b .payments) (b .trailer ∷ batchesOnto bs rs), payments-size (b .payments) (b .trailer ∷ batchesOnto bs []), batches-size bs rs)

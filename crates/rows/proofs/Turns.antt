@@ -1,26 +1,33 @@
 -- The loop over a file's batches: the rows so far and those of the batches left are the report's.
 -- Assumes nothing.
 use mathlib.Core.Path.{_≡_, refl, sym, ap, _∙_}
+use mathlib.Core.Bool.{Bool, false, true≢false}
 use mathlib.Core.List.{List, [], _∷_, _++_, map, append-assoc, append-nil}
-use Prim.Native.Nat.{ℕ, _+_, _/_, _<_, _≤_}
+use Prim.Native.Nat.{ℕ, _+_, _-_, _/_, _<_, _≤_}
 use native.Mathlib.Omega.{arith}
-use lib.ListN.{length, length-append}
+use lib.ListN.{length, take, drop, length-append, take-append-drop}
 use Rattle.money.specs.declared.Amount.{Amount}
 use Rattle.book.specs.Book.{Contents}
 use Rattle.nesting.specs.Division.{Batch, Division, DivisionOf, batchLines, recordsBefore, lines}
 use Rattle.nesting.specs.Records.{records}
 use Rattle.nesting.proofs.Cuts.{cut-length}
 use Rattle.nesting.proofs.OneDivision.{one-division}
-use Rattle.report.specs.Rows.{rowBytes, rowsBytes, rowAt, over}
-use Rattle.report.proofs.Rows.{Eights, row-length, rows-end, head-room, rows-room, row-room, over-none, over-length}
-use Rattle.repeats.specs.Repeats.{Topped}
+use Rattle.report.specs.Rows.{rowBytes, rowsBytes, rowAt, roomFor, over}
+use Rattle.report.proofs.Rows.{Eights, row-length, rows-snoc, rows-end, head-room, row-room, over-length}
+use Rattle.repeats.specs.declared.Numbering.{Numbering}
+use Rattle.repeats.specs.Repeats.{member}
+use Rattle.repeats.specs.Schedules.{Noted, numbersBefore, numbersFrom, Batched, numbered, flagged}
 use Rattle.repeats.proofs.Looks.{topped-none}
+use Rattle.repeats.proofs.Schedules.{noted-next}
+use Rattle.batch.specs.Batch.{rowOf}
 use Rattle.rows.specs.declared.Judged.{Judged}
 use Rattle.rows.specs.Report.{headRow, batchRow, scheduleOf, batchRows, headOf, rowsOf, reported, Writable, Written}
-use Rattle.rows.specs.Standing.{Stands, Opens, judged, IsJudged}
-use Rattle.rows.proofs.Places.{counted, topped-after}
-use Rattle.rows.proofs.Sizes.{place-next, batches-few}
-use Rattle.rows.proofs.Reported.{rows-next, reported-is, eights-next}
+use Rattle.rows.specs.Standing.{Stands, Opens, judged, IsJudged, flagsAt, flagsIn, Numberable}
+use Rattle.rows.proofs.Places.{counted, number-is, before-is, before-after, from-here, from-after, is-batched}
+use Rattle.rows.proofs.Sizes.{place-next, batches-few, batches-size}
+use Rattle.rows.proofs.Reported.{reported-is, eights-next}
+use Rattle.rows.proofs.Overs.{take-through}
+use Rattle.rows.proofs.Flagging.{flags-end, flags-length, row-next, flagged-fits, rows-stay, rest-stays, flags-stay}
 
 -- the first of batches, and none
 first-of : (bs : List Batch) → 1 ≤ length bs → (b : Batch) × (rest : List Batch) × (bs ≡ b ∷ rest)
@@ -31,24 +38,36 @@ none-left : (bs : List Batch) → length bs ≡ 0 → bs ≡ []
 none-left [] h = refl
 none-left (b ∷ bs) h = absurd (omega arith)
 
--- the report `first` has the head; behind it the rows of the earlier batches stand in the report, and those of the later ones are left
-pub record Going (book : Contents) (file : List ℕ) (payments batches : ℕ) (first report greatest : List ℕ) (place written : ℕ) : Type 0 where
+-- a report that has all rows, and behind them what it had
+all-rows : (first report : List ℕ) (rows : List (List ℕ)) (batches : ℕ) → Eights rows → length rows ≡ batches
+    → take (rowAt batches) report ≡ take (rowAt 0) first ++ rowsBytes rows → drop (roomFor batches) report ≡ drop (roomFor batches) first
+    → report ≡ over first (rowAt 0) (rowsBytes rows)
+unfolding over roomFor
+all-rows first report rows batches h n f r =
+    let e : rowAt 0 + length (rowsBytes rows) ≡ rowAt batches = rows-end rows h ∙ ap rowAt n in
+    sym (take-append-drop (rowAt batches) report) ∙ (λ i. f i ++ r i) ∙ rw e (append-assoc (take (rowAt 0) first) (rowsBytes rows) (drop (rowAt batches) first))
+
+-- the report `first` has the head; behind it the rows of the earlier batches stand in the report, those of the later ones are left, and
+-- what is known of their numbers is noted
+pub record Going (book : Contents) (file : List ℕ) (payments batches : ℕ) (first report greatest : List ℕ) (marked : Bool) (place written : ℕ) : Type 0 where
   pub total : Amount
   pub writable : Writable file payments total batches first
   pub earlier : List Batch
   pub later : List Batch
   pub whole : writable .division .batches ≡ earlier ++ later
   pub start : place ≡ recordsBefore earlier
-  pub topped : Topped greatest (map scheduleOf earlier)
+  pub noted : Noted (map scheduleOf earlier) (map scheduleOf later) greatest marked (flagsIn batches written report)
   pub rows : List (List ℕ)
   pub eights : Eights rows
   pub size : length rows ≡ written
   pub turns : written ≡ length earlier
-  pub stand : report ≡ over first (rowAt 0) (rowsBytes rows)
+  pub long : length report ≡ length first
+  pub front : take (rowAt written) report ≡ take (rowAt 0) first ++ rowsBytes rows
+  pub rear : drop (roomFor batches) report ≡ drop (roomFor batches) first
   pub decides : rowsOf book (writable .division) ≡ rows ++ batchRows book (place + 1) earlier later
 
-module _ {book : Contents} {file : List ℕ} {payments batches : ℕ} {first report greatest : List ℕ} {place written : ℕ}
-    (g : Going book file payments batches first report greatest place written) where
+module _ {book : Contents} {file : List ℕ} {payments batches : ℕ} {first report greatest : List ℕ} {marked : Bool} {place written : ℕ}
+    (g : Going book file payments batches first report greatest marked place written) where
   abbrev w : Writable file payments (g .total) batches first
   w = g .writable
 
@@ -58,12 +77,8 @@ module _ {book : Contents} {file : List ℕ} {payments batches : ℕ} {first rep
       let l : length (w .division .batches) ≡ length (g .earlier) + length (g .later) = rw (g .whole) (length-append (g .earlier) (g .later)) in
       omega (arith, l, w .count, g .turns)
 
-  -- the rows lie within the report
-  within : rowAt 0 + length (rowsBytes (g .rows)) ≤ length first
-  within = rw (rows-end (g .rows) (g .eights), g .size) (rows-room written batches (length first) (omega (arith, left)) (w .room))
-
-  kept : length report ≡ length first
-  kept = rw (g .stand) (over-length first (rowAt 0) (rowsBytes (g .rows)) within)
+  room : roomFor batches ≤ length report
+  room = rw (g .long) (w .room)
 
   -- a batch is left
   module _ (h : written < batches) where
@@ -87,44 +102,107 @@ module _ {book : Contents} {file : List ℕ} {payments batches : ℕ} {first rep
           before = g .start;
         }
 
-    pub opens : Opens file place greatest
-    opens = record { cuttable = w .cuttable; earlier = g .earlier; batch = b; stands = stands; topped = g .topped }
+    pub opens : Opens file place
+    opens = record { cuttable = w .cuttable; earlier = g .earlier; batch = b; stands = stands }
 
-    -- its row has room, and its place is small
-    pub row-fits : (at : ℕ) → at ≡ rowAt written → at + 64 ≤ length report
-    row-fits at e = rw kept (row-room at written batches (length first) e h (w .room))
+    left-here : length (b ∷ later) ≡ batches - written
+    left-here =
+        let e : length (g .later) ≡ length (b ∷ later) = ap length (next .2) in
+        omega (arith, left, e)
+
+    -- there are few batches
+    batches-below : batches < 65536
+    unfolding stands
+    batches-below =
+        omega (arith, counted (w .cuttable) stands, w .cuttable .few, batches-few (g .earlier), g .start, g .turns, left-here, batches-few later, batches-size later (w .division .trailer ∷ []))
 
     pub row-few : written < 65536
-    row-few = omega (arith, counted (w .cuttable) stands, w .cuttable .few, batches-few (g .earlier), g .start, g .turns)
+    row-few = omega (arith, batches-below)
+
+    -- its header, and what is known of the numbers
+    batched : Batched file place (flagsIn batches written report)
+    unfolding stands
+    batched = is-batched (w .cuttable) stands (flagsIn batches written report) (flags-length batches written report h room ∙ sym left-here)
+
+    noted-here : Noted (numbersBefore file place) (numbersFrom file place) greatest marked (flagsIn batches written report)
+    unfolding stands
+    noted-here =
+        let e : map scheduleOf (g .later) ≡ map scheduleOf (b ∷ later) = ap (map scheduleOf) (next .2) in
+        rw (before-is (w .cuttable) stands, from-here (w .cuttable) stands, ← e) (g .noted)
+
+    pub numberable : Numberable file place greatest marked batches written report
+    numberable = record { left = h; few = batches-below; room = room; batched = batched; noted = noted-here }
 
     -- after it
-    pub turned : (r : Judged) (after : List ℕ) (at : ℕ) → IsJudged book file place greatest r → at ≡ rowAt written → after ≡ over report at (rowBytes (r .numbers))
-        → Going book file payments batches first after (r .greatest) (r .place) (written + 1)
-    unfolding judged batchRows batchRow stands
-    turned r after at j q p =
-        let e : r ≡ judged book place greatest (g .earlier) b = j (g .earlier) b stands in
-        let eight : length (r .numbers) ≡ 8 = ap (λ (q : Judged). length (q .numbers)) e in
-        let z : r .place ≡ place + length (batchLines b) = ap (λ (q : Judged). q .place) e in
-        let n : place + 1 + length (batchLines b) ≡ r .place + 1 = omega (arith, z) in
-        let i : at ≡ rowAt (length (g .rows)) = q ∙ ap rowAt (sym (g .size)) in
-        record {
-          total = g .total;
-          writable = w;
-          earlier = g .earlier ++ b ∷ [];
-          later = later;
-          whole = stands .batches ∙ sym (append-assoc (g .earlier) (b ∷ []) later);
-          start = omega (arith, z, g .start, place-next (g .earlier) b);
-          topped = rw e (topped-after (w .cuttable) stands greatest (g .topped));
-          rows = g .rows ++ r .numbers ∷ [];
-          eights = eights-next (g .rows) (r .numbers) (g .eights) eight;
-          size = rw length-append (omega (arith, g .size));
-          turns = rw length-append (omega (arith, g .turns));
-          stand = p ∙ (λ k. over (g .stand k) (i k) (rowBytes (r .numbers))) ∙ rows-next first (g .rows) (r .numbers) (g .eights) (omega (arith, within));
-          decides =
-              g .decides ∙ ap (λ (bs : List Batch). g .rows ++ batchRows book (place + 1) (g .earlier) bs) (next .2)
-              ∙ (λ i. g .rows ++ sym e i .numbers ∷ batchRows book (n i) (g .earlier ++ b ∷ []) later)
-              ∙ sym (append-assoc (g .rows) (r .numbers ∷ []) _);
-        }
+    module _ (n : Numbering) (mid : List ℕ) (e : n ≡ numbered file place greatest marked)
+        (o : mid ≡ over report (flagsAt batches written) (flagged file place greatest marked (flagsIn batches written report))) where
+      abbrev flags : List ℕ
+      flags = flagged file place greatest marked (flagsIn batches written report)
+
+      fits : length flags ≡ batches - written
+      fits = flagged-fits file place greatest marked batches written report numberable
+
+      mid-length : length mid ≡ length report
+      mid-length =
+          rw o (over-length report (flagsAt batches written) flags (rw fits (omega (arith, flags-end batches written h, room))))
+
+      -- its row has room
+      pub row-fits : (at : ℕ) → at ≡ rowAt written → at + 64 ≤ length mid
+      row-fits at q = rw mid-length (row-room at written batches (length report) q h room)
+
+      repeats-is : n .repeats ≡ member (scheduleOf b) (map scheduleOf (g .earlier))
+      unfolding numbered
+      repeats-is = rw (e, number-is (w .cuttable) stands, before-is (w .cuttable) stands)
+
+      noted-after : (flags' : List ℕ) → flags' ≡ drop 1 flags → Noted (map scheduleOf (g .earlier ++ b ∷ [])) (map scheduleOf later) (n .greatest) (n .marked) flags'
+      unfolding stands
+      noted-after flags' q =
+          rw (q, e, ← before-after (w .cuttable) stands, ← from-after (w .cuttable) stands (flagsIn batches written report) batched)
+          (noted-next file place batched greatest marked noted-here)
+
+      -- the rows with one more
+      front-after : (row : List ℕ) → length row ≡ 64 → rowAt written ≤ length (over report (flagsAt batches written) flags) → (after : List ℕ)
+          → after ≡ over (over report (flagsAt batches written) flags) (rowAt written) row
+          → take (rowAt (written + 1)) after ≡ (take (rowAt 0) first ++ rowsBytes (g .rows)) ++ row
+      front-after row l i after a =
+          let s : rowAt (written + 1) ≡ rowAt written + length row = rw l (row-next written) in
+          rw (a, s)
+          (take-through (over report (flagsAt batches written) flags) (rowAt written) row i
+          ∙ ap (λ (xs : List ℕ). xs ++ row) (rows-stay batches written report flags row h room fits l i ∙ g .front))
+
+      pub turned : (r : Judged) (after : List ℕ) (at : ℕ) → IsJudged book file (n .repeats) place r → at ≡ rowAt written → after ≡ over mid at (rowBytes (r .numbers))
+          → Going book file payments batches first after (n .greatest) (n .marked) (r .place) (written + 1)
+      unfolding judged batchRows batchRow stands
+      turned r after at j q p =
+          let f : r ≡ judged book (n .repeats) place b = j (g .earlier) b stands in
+          let eight : length (r .numbers) ≡ 8 = ap (λ (q : Judged). length (q .numbers)) f in
+          let bytes : length (rowBytes (r .numbers)) ≡ 64 = row-length (r .numbers) eight in
+          let z : r .place ≡ place + length (batchLines b) = ap (λ (q : Judged). q .place) f in
+          let m : place + 1 + length (batchLines b) ≡ r .place + 1 = omega (arith, z) in
+          let a : after ≡ over (over report (flagsAt batches written) flags) (rowAt written) (rowBytes (r .numbers)) = p ∙ rw (q, o) in
+          let i : rowAt written ≤ length (over report (flagsAt batches written) flags) = rw (← o) (omega (arith, row-fits (rowAt written) refl)) in
+          let k : r .numbers ≡ batchRow (rowOf book (member (scheduleOf b) (map scheduleOf (g .earlier))) (place + 1) b) =
+          ap (λ (q : Judged). q .numbers) f ∙ ap (λ (t : Bool). batchRow (rowOf book t (place + 1) b)) repeats-is in
+          record {
+            total = g .total;
+            writable = w;
+            earlier = g .earlier ++ b ∷ [];
+            later = later;
+            whole = stands .batches ∙ sym (append-assoc (g .earlier) (b ∷ []) later);
+            start = omega (arith, z, g .start, place-next (g .earlier) b);
+            noted = noted-after (flagsIn batches (written + 1) after) (rw a (flags-stay batches written report flags (rowBytes (r .numbers)) h room fits bytes i));
+            rows = g .rows ++ r .numbers ∷ [];
+            eights = eights-next (g .rows) (r .numbers) (g .eights) eight;
+            size = rw length-append (omega (arith, g .size));
+            turns = rw length-append (omega (arith, g .turns));
+            long = rw a (over-length (over report (flagsAt batches written) flags) (rowAt written) (rowBytes (r .numbers)) (rw (bytes, ← o) (row-fits (rowAt written) refl))) ∙ ap length (sym o) ∙ mid-length ∙ g .long;
+            front = front-after (rowBytes (r .numbers)) bytes i after a ∙ rw (rows-snoc (g .rows) (r .numbers)) (append-assoc (take (rowAt 0) first) (rowsBytes (g .rows)) (rowBytes (r .numbers)));
+            rear = rw a (rest-stays batches written report flags (rowBytes (r .numbers)) h room fits bytes i) ∙ g .rear;
+            decides =
+                g .decides ∙ ap (λ (bs : List Batch). g .rows ++ batchRows book (place + 1) (g .earlier) bs) (next .2)
+                ∙ (λ i. g .rows ++ sym k i ∷ batchRows book (m i) (g .earlier ++ b ∷ []) later)
+                ∙ sym (append-assoc (g .rows) (r .numbers ∷ []) _);
+          }
 
 -- the head is written, and what the file's division comes to is what it says
 module _ {file : List ℕ} {payments : ℕ} {total : Amount} {batches : ℕ} {before head first : List ℕ} (w : Writable file payments total batches before)
@@ -144,7 +222,7 @@ module _ {file : List ℕ} {payments : ℕ} {total : Amount} {batches : ℕ} {be
   head-kept = rw p (over-length before 0 (rowBytes head) (rw (row-length head head-eight) (omega (arith, head-room batches (length before) (w .room)))))
 
   -- before the first batch
-  pub begun : (book : Contents) (greatest : List ℕ) → Going book file payments batches first first greatest 1 0
+  pub begun : (book : Contents) (greatest : List ℕ) → Going book file payments batches first first greatest false 1 0
   unfolding rowsOf rowsBytes
   begun book greatest =
       record {
@@ -163,29 +241,33 @@ module _ {file : List ℕ} {payments : ℕ} {total : Amount} {batches : ℕ} {be
         later = w .division .batches;
         whole = refl;
         start = refl;
-        topped = topped-none greatest;
+        noted = record { rising = λ e. topped-none greatest; marks = λ e. absurd (true≢false (sym e)) };
         rows = [];
         eights = tt;
         size = refl;
         turns = refl;
-        stand = sym (over-none first (rowAt 0));
+        long = refl;
+        front = sym (append-nil (take (rowAt 0) first));
+        rear = refl;
         decides = refl;
       }
 
   -- the report keeps its length
-  pub all-kept : {book : Contents} {report greatest : List ℕ} {place written : ℕ} → Going book file payments batches first report greatest place written
+  pub all-kept : {book : Contents} {report greatest : List ℕ} {marked : Bool} {place written : ℕ} → Going book file payments batches first report greatest marked place written
       → length report ≡ length before
-  all-kept g = kept g ∙ head-kept
+  all-kept g = g .long ∙ head-kept
 
   -- after the last
-  pub finished : {book : Contents} {report greatest : List ℕ} {place written : ℕ} → Going book file payments batches first report greatest place written
+  pub finished : {book : Contents} {report greatest : List ℕ} {marked : Bool} {place written : ℕ} → Going book file payments batches first report greatest marked place written
       → batches ≤ written → Written book file before report
   unfolding batchRows
-  finished {book} {place} g h d q =
+  finished {book} {report} {place = place} {written = written} g h d q =
       let n : g .later ≡ [] = none-left (g .later) (omega (arith, left g)) in
+      let all : written ≡ batches = omega (arith, left g, ap length n) in
       let k : rowsOf book (g .writable .division) ≡ g .rows =
       g .decides ∙ ap (λ (bs : List Batch). g .rows ++ batchRows book (place + 1) (g .earlier) bs) n ∙ append-nil (g .rows) in
       let o : g .writable .division ≡ d = one-division (records file) (g .writable .division) d (g .writable .divided) q in
       let m : rowsOf book d ≡ g .rows = ap (rowsOf book) (sym o) ∙ k in
-      g .stand ∙ ap (λ (f : List ℕ). over f (rowAt 0) (rowsBytes (g .rows))) p ∙ reported-is before head (g .rows) head-eight (g .eights)
+      let stand : report ≡ over first (rowAt 0) (rowsBytes (g .rows)) = all-rows first report (g .rows) batches (g .eights) (g .size ∙ all) (rw all at (g .front)) (g .rear) in
+      stand ∙ ap (λ (f : List ℕ). over f (rowAt 0) (rowsBytes (g .rows))) p ∙ reported-is before head (g .rows) head-eight (g .eights)
       ∙ (λ i. reported before (head-is d q i) (sym m i))

@@ -1,3 +1,2 @@
 pub mod Report
 pub mod Standing
-pub mod Ends

@@ -1,17 +1,17 @@
--- Where a batch stands in a file, what it adds to the report, and what is known after it.
-use Prim.Native.Nat.{ℕ, _+_}
+-- Where a batch stands in a file, what it adds to the report, and where the flags of the batches to come stand meanwhile.
+use Prim.Native.Nat.{ℕ, _+_, _-_, _<_, _≤_}
 use mathlib.Core.Path.{_≡_}
-use mathlib.Core.List.{List, _∷_, _++_, map}
-use lib.ListN.{length}
+use mathlib.Core.Bool.{Bool}
+use mathlib.Core.List.{List, _∷_, _++_}
+use lib.ListN.{length, take, drop}
 use Rattle.book.specs.Book.{Contents}
 use Rattle.nesting.specs.Division.{Batch, Division, DivisionOf, batchLines, recordsBefore}
 use Rattle.nesting.specs.Records.{records, Cuttable}
-use Rattle.repeats.specs.declared.Sort.the-variants.{Batches}
-use Rattle.repeats.specs.Repeats.{member, Topped}
-use Rattle.repeats.specs.Places.{raised}
+use Rattle.report.specs.Rows.{roomFor}
+use Rattle.repeats.specs.Schedules.{Noted, numbersBefore, numbersFrom, Batched}
 use Rattle.batch.specs.Batch.{rowOf}
 use Rattle.rows.specs.declared.Judged.{Judged}
-use Rattle.rows.specs.Report.{scheduleOf, batchRow}
+use Rattle.rows.specs.Report.{batchRow}
 
 -- the batch stands in the file's division after the earlier ones, and so many records before it
 pub record Stands (file : List ℕ) (place : ℕ) (earlier : List Batch) (b : Batch) : Type 0 where
@@ -21,23 +21,32 @@ pub record Stands (file : List ℕ) (place : ℕ) (earlier : List Batch) (b : Ba
   pub batches : division .batches ≡ earlier ++ b ∷ later
   pub before : place ≡ recordsBefore earlier
 
--- a batch stands there, and no earlier one's schedule number stands after the greatest
-pub record Opens (file : List ℕ) (place : ℕ) (greatest : List ℕ) : Type 0 where
+-- a batch stands there
+pub record Opens (file : List ℕ) (place : ℕ) : Type 0 where
   pub cuttable : Cuttable file
   pub earlier : List Batch
   pub batch : Batch
   pub stands : Stands file place earlier batch
-  pub topped : Topped greatest (map scheduleOf earlier)
 
--- the numbers of the batch's row, the greatest schedule number after it, the records up to its end
-unfoldable pub judged : Contents → ℕ → List ℕ → List Batch → Batch → Judged
-judged book place greatest earlier b =
-    record {
-      numbers = batchRow (rowOf book (member (scheduleOf b) (map scheduleOf earlier)) (place + 1) b);
-      greatest = raised Batches (b .header) greatest;
-      place = place + length (batchLines b);
-    }
+-- the numbers of the batch's row, an earlier batch having its schedule number or not, and the records up to its end
+unfoldable pub judged : Contents → Bool → ℕ → Batch → Judged
+judged book repeats place b = record { numbers = batchRow (rowOf book repeats (place + 1) b); place = place + length (batchLines b) }
 
 -- they are those of the batch that stands there
-abbrev pub IsJudged : Contents → List ℕ → ℕ → List ℕ → Judged → Type 0
-IsJudged book file place greatest r = (earlier : List Batch) (b : Batch) → Stands file place earlier b → r ≡ judged book place greatest earlier b
+abbrev pub IsJudged : Contents → List ℕ → Bool → ℕ → Judged → Type 0
+IsJudged book file repeats place r = (earlier : List Batch) (b : Batch) → Stands file place earlier b → r ≡ judged book repeats place b
+
+-- the flags of the batches whose rows are to come stand in the room of those rows, a byte each, up to where the last will end
+unfoldable pub flagsAt : ℕ → ℕ → ℕ
+flagsAt batches written = roomFor batches - (batches - written)
+
+unfoldable pub flagsIn : ℕ → ℕ → List ℕ → List ℕ
+flagsIn batches written report = take (batches - written) (drop (flagsAt batches written) report)
+
+-- a batch's header stands at the place, so many rows are written, and the numbers before it are noted
+pub record Numberable (file : List ℕ) (place : ℕ) (greatest : List ℕ) (marked : Bool) (batches written : ℕ) (report : List ℕ) : Type 0 where
+  pub left : written < batches
+  pub few : batches < 65536
+  pub room : roomFor batches ≤ length report
+  pub batched : Batched file place (flagsIn batches written report)
+  pub noted : Noted (numbersBefore file place) (numbersFrom file place) greatest marked (flagsIn batches written report)

@@ -1,18 +1,18 @@
 // The report of an accepted file (01 Report): the head and a row for each batch, each through its own part of the report.
-mod ends;
-
 use batch::Row;
 use book::Book;
 use money::Amount;
+use repeats::Numbering;
 ghost use mathlib.Core.Path.{_≡_};
 ghost use Rattle.book.specs.Book.{Usable, listedAt};
+ghost use Rattle.report.specs.Rows.{over};
+ghost use Rattle.repeats.specs.Schedules.{numbered, flagged};
 ghost use Rattle.rows.specs.Report.{headRow, batchRow, Writable, Written};
-ghost use Rattle.rows.specs.Standing.{Opens, IsJudged};
+ghost use Rattle.rows.specs.Standing.{Opens, IsJudged, flagsAt, flagsIn, Numberable};
 
-// What is known after a batch: the numbers of its row, the greatest schedule number so far, and the records up to its end.
+// What is known after a batch: the numbers of its row, and the records up to its end.
 struct Judged {
     numbers: [u64; 8],
-    greatest: [u8; 14],
     place: usize,
 }
 
@@ -50,23 +50,38 @@ fn batch_numbers(row: Row) -> [u64; 8]
     ]
 }
 
-// Judges the batch that begins after so many records; no schedule number of an earlier batch stands after the greatest.
-fn judge_next(file: &[u8], book: &[u8], shelves: Book, place: usize, greatest: [u8; 14]) -> Judged
-    requires { ⌜ Usable (now book) shelves × Opens (now file) place greatest ⌝ }
-    ensures { λ r. ⌜ IsJudged (listedAt (now (book .entry)) shelves) (now (file .entry)) place greatest r ⌝ }
+// What is known of the schedule number of the batch at the place. The flags of the batches to come, where there are any, stand in the room of
+// their rows: each row is written after its own flag is read, and before those behind it.
+fn number_next(
+    file: &[u8],
+    place: usize,
+    greatest: [u8; 14],
+    marked: bool,
+    batches: usize,
+    written: usize,
+    report: &mut [u8],
+) -> Numbering
+    requires { ⌜ Numberable (now file) place greatest marked batches written (now report) ⌝ }
+    ensures answer { λ r. ⌜ r ≡ numbered (now (file .entry)) place greatest marked ⌝ }
+    ensures after { λ r. ⌜ now (report .exit) ≡ over (now (report .entry)) (flagsAt batches written) (flagged (now (file .entry)) place greatest marked (flagsIn batches written (now (report .entry)))) ⌝ }
+{
+    let end = report::room_for(batches);
+    let from = end - (batches - written);
+    repeats::number_batch(file, place, greatest, marked, &mut report[from..end])
+}
+
+// Judges the batch that begins after so many records; an earlier batch has its schedule number, or not.
+fn judge_next(file: &[u8], book: &[u8], shelves: Book, place: usize, repeats: bool) -> Judged
+    requires { ⌜ Usable (now book) shelves × Opens (now file) place ⌝ }
+    ensures { λ r. ⌜ IsJudged (listedAt (now (book .entry)) shelves) (now (file .entry)) repeats place r ⌝ }
 {
     let first = place + 1;
     let at = place * 850;
-    let records = ends::batch_records(&file[at..], first);
-    let end = at + records * 850;
-    let look = repeats::look_at_batch(file, place, greatest);
-    let row = batch::judge_batch(book, shelves, &file[at..end], first, look.repeats);
+    let row = batch::judge_batch(book, shelves, &file[at..], first, repeats);
     let numbers = batch_numbers(row);
-    let raised = look.greatest;
-    let after = place + records;
+    let after = place + row.records;
     Judged {
         numbers,
-        greatest: raised,
         place: after,
     }
 }
@@ -89,14 +104,17 @@ pub fn write_rows(
     let head = head_numbers(records, payments, total, batches);
     report::write_row(report, 0, head);
     let mut greatest: [u8; 14] = [0; 14];
+    let mut marked = false;
     let mut place: usize = 1;
     let mut written: usize = 0;
     while written < batches {
-        let judged = judge_next(file, book, shelves, place, greatest);
+        let number = number_next(file, place, greatest, marked, batches, written, report);
+        let judged = judge_next(file, book, shelves, place, number.repeats);
         let numbers = judged.numbers;
         let at = report::row_at(written);
         report::write_row(report, at, numbers);
-        greatest = judged.greatest;
+        greatest = number.greatest;
+        marked = number.marked;
         place = judged.place;
         written += 1;
     }

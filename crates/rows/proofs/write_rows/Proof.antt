@@ -1,17 +1,17 @@
 use Prim.Native.Nat.{_-_}
 use Rattle.book.specs.Book.{listedAt}
 use Rattle.report.proofs.Rows.{head-room}
-use Rattle.rows.proofs.Turns.{Going, opens, row-few, row-fits, turned, begun, all-kept, finished}
+use Rattle.rows.proofs.Turns.{Going, opens, numberable, row-few, row-fits, turned, begun, all-kept, finished}
 use borrow.Author.Needs.{needs}
 use Rattle.rows.proofs.write_rows.Statement.{statement}
 use Rattle.rows.proofs.write_rows.Tie as tie
 
 abbrev Inv-loop : tie.InvT-loop
-Inv-loop file book shelves payments batches report₀ records greatest₀ place₀ written₀ report greatest place written =
-    Going (listedAt book shelves) file payments batches report₀ report greatest place written
+Inv-loop file book shelves payments batches report₀ records greatest₀ marked₀ place₀ written₀ report greatest marked place written =
+    Going (listedAt book shelves) file payments batches report₀ report greatest marked place written
 
 abbrev μ-loop : tie.MeasureT-loop
-μ-loop file book shelves payments batches report₀ records greatest₀ place₀ written₀ report greatest place written =
+μ-loop file book shelves payments batches report₀ records greatest₀ marked₀ place₀ written₀ report greatest marked place written =
     batches - written
 
 head-numbers-requires : tie.Need-head-numbers-requires Inv-loop μ-loop
@@ -22,6 +22,9 @@ write-row-requires c κs = search (needs, head-room)
 
 loop-holds : tie.Need-loop-holds Inv-loop μ-loop
 loop-holds c = search (needs, begun)
+
+number-next-requires : tie.Need-number-next-requires Inv-loop μ-loop
+number-next-requires c κs = search (needs, numberable)
 
 judge-next-requires : tie.Need-judge-next-requires Inv-loop μ-loop
 judge-next-requires c κs = search (needs, opens)
@@ -56,6 +59,7 @@ write-rows-spec =
     head-numbers-requires
     write-row-requires
     loop-holds
+    number-next-requires
     judge-next-requires
     row-at-requires
     write-row-requires-2

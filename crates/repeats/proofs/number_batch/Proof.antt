@@ -1,0 +1,52 @@
+use Rattle.record.proofs.Chain.{reads}
+use Rattle.repeats.specs.Repeats.{numbering}
+use Rattle.repeats.proofs.Schedules.{some-flag, down-flag, tell-marked, after-marked, tell-up, after-up, tell-down, after-down}
+use borrow.Author.Needs.{needs}
+use Rattle.repeats.proofs.number_batch.Statement.{statement}
+use Rattle.repeats.proofs.number_batch.Tie as tie
+
+slice-read-repeats : tie.Need-slice-read-repeats
+slice-read-repeats c = search (needs, some-flag)
+
+returns : tie.Need-returns
+returns c = search (needs, tell-marked, after-marked)
+
+slice-aggregate-is-after : tie.Need-slice-aggregate-is-after
+slice-aggregate-is-after c = search needs
+
+is-after-requires : tie.Need-is-after-requires
+unfolding numbering
+is-after-requires c κs = search needs
+
+schedule-number-requires : tie.Need-schedule-number-requires
+schedule-number-requires c κs = search needs
+
+returns-2 : tie.Need-returns-2
+returns-2 c = search (needs, tell-up, after-up, reads)
+
+mark-batches-requires : tie.Need-mark-batches-requires
+mark-batches-requires c κs = search needs
+
+slice-read-repeats-2 : tie.Need-slice-read-repeats-2
+slice-read-repeats-2 c = let h = some-flag _ _ (c .before .before .before .before .before .before .before .before .before .before .before .pre .0) in search needs
+
+same-length : tie.Need-same-length
+same-length c = search needs
+
+returns-3 : tie.Need-returns-3
+returns-3 c = search (needs, tell-down, after-down, reads)
+
+pub number-batch-spec : {M : Type 1} → statement M
+number-batch-spec =
+    tie.close
+    (tie.spec
+    slice-read-repeats
+    returns
+    slice-aggregate-is-after
+    is-after-requires
+    schedule-number-requires
+    returns-2
+    mark-batches-requires
+    slice-read-repeats-2
+    same-length
+    returns-3)
