@@ -13,8 +13,9 @@ use Rattle.record.proofs.Same.{alike-equal}
 use Rattle.nesting.specs.Division.{Record}
 use Rattle.nesting.specs.Records.{cut, recordAt}
 use Rattle.nesting.proofs.Cuts.{cut-snoc}
+use Rattle.tables.specs.Tables.{member}
 use Rattle.repeats.specs.declared.Sort.the-variants.{Payments}
-use Rattle.repeats.specs.Repeats.{isOf, numbers, member, repeats}
+use Rattle.repeats.specs.Repeats.{isOf, numbers, repeats}
 use Rattle.repeats.specs.Sieve.{idOf, hashOf, hasMarks, withMarks, classOf, inClass, AllMarked, repeatsIn}
 use Rattle.repeats.proofs.Marks.{marks-length, marks-keep, marks-own}
 use Rattle.repeats.proofs.Walks.{member-choose}

@@ -11,9 +11,9 @@ ghost use mathlib.Core.List.{[]};
 ghost use Prim.Native.Nat.{_+_, _*_, _/_, _<_, _≤_};
 ghost use lib.ListN.{length};
 ghost use Rattle.nesting.specs.Records.{cut, recordAt};
+ghost use Rattle.tables.specs.Tables.{Stands};
 ghost use Rattle.repeats.specs.declared.Sort.the-variants.{Payments};
 ghost use Rattle.repeats.specs.Repeats.{firstRepeat};
-ghost use Rattle.repeats.specs.Places.{Stands};
 ghost use Rattle.repeats.specs.Sieve.{idOf, wordOf, mixed, hashOf, marked, isMarked, hasMarks, withMarks, inClass, AllMarked, repeatsIn, Passed};
 
 // Four bytes of an ID as one number.
