@@ -1,1 +1,5 @@
+mod Values
+mod Inserts
+mod Seeks
+mod Enters
 pub mod Unique

@@ -111,5 +111,8 @@ pub fn enter(
             count: count + 1,
         };
     }
-    Entry { known: false, count }
+    Entry {
+        known: false,
+        count,
+    }
 }
