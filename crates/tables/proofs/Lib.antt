@@ -1,5 +1,6 @@
-mod Values
+pub mod Values
 mod Inserts
 mod Seeks
 mod Enters
+pub mod Tables
 pub mod Unique

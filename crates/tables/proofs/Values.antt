@@ -3,7 +3,7 @@
 use mathlib.Core.Path.{_≡_, refl, sym, ap, _∙_}
 use mathlib.Core.Bool.{Bool, true, false, true≢false}
 use mathlib.Core.List.{List, [], _∷_, _++_}
-use Prim.Native.Nat.{ℕ, zero, suc, _+_, _≤_, _<_}
+use Prim.Native.Nat.{ℕ, zero, suc, _≤_, _<_}
 use native.Mathlib.Omega.{arith}
 use lib.ListN.{length, getD}
 use Rattle.record.specs.declared.Order.{Order}
@@ -57,13 +57,7 @@ unfolding isBefore
 same-tells o e = rw e
 
 module _ (x : List ℕ) where
-  -- one value more
-  pub member-snoc : (ys : List (List ℕ)) (y : List ℕ) → member x (ys ++ y ∷ []) ≡ (member x ys or alike y x)
-  unfolding member
-  member-snoc [] y = or-comm (alike y x) false
-  member-snoc (z ∷ ys) y = ap (λ (b : Bool). alike z x or b) (member-snoc ys y) ∙ or-assoc (alike z x) (member x ys) (alike y x)
-
-  -- it counts the same wherever it stands
+  -- one value more counts the same wherever it stands
   pub member-between : (ys : List (List ℕ)) (y : List ℕ) (zs : List (List ℕ)) → member x (ys ++ y ∷ zs) ≡ (member x (ys ++ zs) or alike y x)
   unfolding member
   member-between [] y zs = or-comm (alike y x) (member x zs)

@@ -15,8 +15,8 @@ returns c = search (needs, known-entry, known-table)
 insert-requires : tie.Need-insert-requires
 insert-requires c κs = search (needs, seat-in)
 
-add-t15 : tie.Need-add-t15
-add-t15 c = search needs
+add-grown : tie.Need-add-grown
+add-grown c = search needs
 
 same-length-2 : tie.Need-same-length-2
 same-length-2 c = search needs
@@ -38,7 +38,7 @@ enter-spec =
     same-length
     returns
     insert-requires
-    add-t15
+    add-grown
     same-length-2
     returns-2
     same-length-3
