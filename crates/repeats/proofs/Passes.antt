@@ -98,7 +98,7 @@ module _ (classes first : ℕ) (xs : List ℕ) (count best c : ℕ) (o : Best cl
 
 -- after all passes
 module _ (first : ℕ) (xs : List ℕ) (count : ℕ) (m : count ≡ length xs / 850) where
-  seek : (place : ℕ) → place ≤ count → ((k : ℕ) → k < place → isRepeat first xs k ≡ false) → Seeking first xs place
+  pub seek : (place : ℕ) → place ≤ count → ((k : ℕ) → k < place → isRepeat first xs k ≡ false) → Seeking first xs place
   unfolding isRepeat
   seek zero l h = seeking-none first xs
   seek (suc place) l h =

@@ -30,7 +30,7 @@ pub(crate) struct Climbing {
 }
 
 // Where the number stands: 004 fields 23 and 6.
-fn number_field(sort: Sort) -> Field
+pub(crate) fn number_field(sort: Sort) -> Field
     ensures { λ r. ⌜ r ≡ numbering sort ⌝ }
 {
     match sort {

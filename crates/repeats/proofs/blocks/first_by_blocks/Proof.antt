@@ -1,41 +1,37 @@
-use Prim.Native.Nat.{_≤_, _-_, _/_}
+use Prim.Native.Nat.{_-_, _/_}
 use mathlib.Core.Path.{_≡_}
 use lib.ListN.{length}
-use Rattle.record.proofs.Chain.{reads}
-use Rattle.repeats.proofs.Firsts.{Seeking, seeking-none, seeking-next, seeking-stop, seeking-end}
+use Rattle.repeats.proofs.Sought.{Sought, sought-none, sought-next, sought-hit, sought-miss}
 use borrow.Author.Needs.{needs}
 use Rattle.repeats.proofs.blocks.first_by_blocks.Statement.{statement}
 use Rattle.repeats.proofs.blocks.first_by_blocks.Tie as tie
 
 abbrev Inv-loop : tie.InvT-loop
-Inv-loop part first count place₀ place = (place ≤ count) × (count ≡ length part / 850) × Seeking first part place
+Inv-loop part first count best₀ from₀ best from = (count ≡ length part / 850) × Sought first part count best from
 
 abbrev μ-loop : tie.MeasureT-loop
-μ-loop part first count place₀ place = count - place
+μ-loop part first count best₀ from₀ best from = count - from
 
 loop-holds : tie.Need-loop-holds Inv-loop μ-loop
-loop-holds c = search (needs, seeking-none)
+loop-holds c = search (needs, sought-none)
 
-is-repeated-requires : tie.Need-is-repeated-requires Inv-loop μ-loop
-is-repeated-requires c κs = search needs
-
-add-t9 : tie.Need-add-t9 Inv-loop μ-loop
-add-t9 c = search needs
-
-returns : tie.Need-returns Inv-loop μ-loop
-returns c = search (needs, seeking-stop, reads)
-
-add-place : tie.Need-add-place Inv-loop μ-loop
-add-place c = search needs
+block-requires : tie.Need-block-requires Inv-loop μ-loop
+block-requires c κs = search needs
 
 loop-less : tie.Need-loop-less Inv-loop μ-loop
 loop-less c = search needs
 
 loop-again : tie.Need-loop-again Inv-loop μ-loop
-loop-again c = search (needs, seeking-next, reads)
+loop-again c = search (needs, sought-next)
+
+add-t10 : tie.Need-add-t10 Inv-loop μ-loop
+add-t10 c = search needs
+
+returns : tie.Need-returns Inv-loop μ-loop
+returns c = search (needs, sought-hit)
 
 returns-2 : tie.Need-returns-2 Inv-loop μ-loop
-returns-2 c = search (needs, seeking-end)
+returns-2 c = search (needs, sought-miss)
 
 pub first-by-blocks-spec : {M : Type 1} → statement M
 first-by-blocks-spec =
@@ -44,10 +40,9 @@ first-by-blocks-spec =
     Inv-loop
     μ-loop
     loop-holds
-    is-repeated-requires
-    add-t9
-    returns
-    add-place
+    block-requires
     loop-less
     loop-again
+    add-t10
+    returns
     returns-2)
