@@ -1,40 +1,71 @@
 -- The sieve and the records before a place: every detail of the class has its marks, so an ID that lacks one is new.
 -- Assumes nothing.
 use mathlib.Core.Path.{_≡_, refl, sym, _∙_}
-use mathlib.Core.Bool.{Bool, true, false, true≢false}
+use mathlib.Core.Bool.{Bool, true, false, not, true≢false}
 use mathlib.Core.List.{List, [], _∷_, _++_}
-use Prim.Native.Nat.{ℕ, _+_, _/_, _%_}
+use Prim.Native.Nat.{ℕ, _+_, _/_, _%_, _≤_, _<_}
+use native.Mathlib.Omega.{arith}
+use borrow.Author.Tests.{not-false, eq-eqb, ne-eqb}
 use lib.Dec.{eqb}
 use lib.ListN.{length}
-use Rattle.record.specs.Choice.{_and_, _or_}
+use Rattle.record.specs.Choice.{_and_, _or_, choose}
 use Rattle.record.specs.Tests.{alike}
-use Rattle.record.proofs.Chain.{and-right, and-false}
+use Rattle.record.proofs.Chain.{and-left, and-right, and-false}
 use Rattle.record.proofs.Same.{alike-equal}
 use Rattle.nesting.specs.Division.{Record}
 use Rattle.nesting.specs.Records.{cut, recordAt}
 use Rattle.nesting.proofs.Cuts.{cut-snoc}
+use Rattle.tables.specs.Tables.{member}
 use Rattle.repeats.specs.declared.Sort.the-variants.{Payments}
-use Rattle.repeats.specs.Repeats.{isOf, numbers, member, repeats}
-use Rattle.repeats.specs.Sieve.{idOf, hashOf, hasMarks, withMarks, classOf, inClass, AllMarked, repeatsIn}
+use Rattle.repeats.specs.Repeats.{isOf, numbers, repeats}
+use Rattle.repeats.specs.Sieve.{idOf, hashOf, hasMarks, withMarks, classOf, inClass, isSuspect, sifted, AllMarked, repeatsIn, Tried}
 use Rattle.repeats.proofs.Marks.{marks-length, marks-keep, marks-own}
 use Rattle.repeats.proofs.Walks.{member-choose}
 
--- the class of a record, as the code asks for it
-module _ (classes class : ℕ) (r : Record) where
-  pub other-sort : isOf Payments r ≡ false → false ≡ inClass classes class r
+-- what a sift finds and leaves: of another sort, of another class, or of the class
+module _ (classes class : ℕ) (sieve : List ℕ) (r : Record) where
+  module _ (w : inClass classes class r ≡ false) where
+    other-answer : false ≡ isSuspect classes class sieve r
+    unfolding isSuspect _and_
+    other-answer = sym (rw w)
+
+    other-after : sieve ≡ sifted classes class sieve r
+    unfolding sifted choose
+    other-after = sym (rw w)
+
+  other-sort : isOf Payments r ≡ false → inClass classes class r ≡ false
   unfolding inClass _and_
-  other-sort o = sym (rw o)
+  other-sort o = rw o
 
-  pub by-class : (id : List ℕ) (hash : ℕ) → isOf Payments r ≡ true → id ≡ idOf r → hash ≡ hashOf id → eqb (hash / 562949953421312 % classes) class ≡ inClass classes class r
-  unfolding inClass classOf _and_
-  by-class id hash o e h = sym (rw (o, h, e))
+  pub sort-answer : isOf Payments r ≡ false → false ≡ isSuspect classes class sieve r
+  sort-answer o = other-answer (other-sort o)
 
--- the marks of a record's ID, as the code asks for them and sets them
-pub sift-answer : (sieve id : List ℕ) (r : Record) (hash : ℕ) (b : Bool) → id ≡ idOf r → hash ≡ hashOf id → b ≡ hasMarks sieve hash → b ≡ hasMarks sieve (hashOf (idOf r))
-sift-answer sieve id r hash b e h q = q ∙ rw (h, e)
+  pub sort-after : isOf Payments r ≡ false → sieve ≡ sifted classes class sieve r
+  sort-after o = other-after (other-sort o)
 
-pub sift-after : (sieve after id : List ℕ) (r : Record) (hash : ℕ) → id ≡ idOf r → hash ≡ hashOf id → after ≡ withMarks sieve hash → after ≡ withMarks sieve (hashOf (idOf r))
-sift-after sieve after id r hash e h q = q ∙ rw (h, e)
+  module _ (id : List ℕ) (hash : ℕ) (o : isOf Payments r ≡ true) (e : id ≡ idOf r) (h : hash ≡ hashOf id) where
+    by-class : eqb (hash / 562949953421312 % classes) class ≡ inClass classes class r
+    unfolding inClass classOf _and_
+    by-class = sym (rw (o, h, e))
+
+    module _ (n : hash / 562949953421312 % classes ≡ class → ⊥) where
+      pub class-answer : false ≡ isSuspect classes class sieve r
+      class-answer = other-answer (sym by-class ∙ ne-eqb _ class n)
+
+      pub class-after : sieve ≡ sifted classes class sieve r
+      class-after = other-after (sym by-class ∙ ne-eqb _ class n)
+
+    module _ (q : hash / 562949953421312 % classes ≡ class) where
+      in-class : inClass classes class r ≡ true
+      in-class = sym by-class ∙ eq-eqb _ class q
+
+      pub own-answer : (b : Bool) → b ≡ hasMarks sieve hash → b ≡ isSuspect classes class sieve r
+      unfolding isSuspect _and_
+      own-answer b m = rw (in-class, ← e, ← h) m
+
+      pub own-after : (after : List ℕ) → after ≡ withMarks sieve hash → after ≡ sifted classes class sieve r
+      unfolding sifted choose
+      own-after after m = rw (in-class, ← e, ← h) m
 
 -- one record more, and what a missing mark says
 module _ (classes class : ℕ) where
@@ -75,28 +106,60 @@ module _ (classes class first : ℕ) (xs : List ℕ) where
   marked-none sieve = tt
 
   module _ (place : ℕ) where
-    pub in-other : inClass classes class (recordAt first place xs) ≡ false → false ≡ repeatsIn classes class first xs place
+    in-other : inClass classes class (recordAt first place xs) ≡ false → false ≡ repeatsIn classes class first xs place
     unfolding repeatsIn _and_
     in-other w = sym (rw w)
 
-    pub in-walked : (r : Bool) → inClass classes class (recordAt first place xs) ≡ true → r ≡ repeats Payments (cut first place xs) (recordAt first place xs)
+    in-walked : (r : Bool) → inClass classes class (recordAt first place xs) ≡ true → r ≡ repeats Payments (cut first place xs) (recordAt first place xs)
         → r ≡ repeatsIn classes class first xs place
     unfolding repeatsIn _and_
     in-walked r w e = sym (rw w (sym e))
 
-    pub in-new : (sieve : List ℕ) → hasMarks sieve (hashOf (idOf (recordAt first place xs))) ≡ false → inClass classes class (recordAt first place xs) ≡ true
+    in-new : (sieve : List ℕ) → hasMarks sieve (hashOf (idOf (recordAt first place xs))) ≡ false → inClass classes class (recordAt first place xs) ≡ true
         → AllMarked classes class sieve (cut first place xs) → false ≡ repeatsIn classes class first xs place
     unfolding repeatsIn repeats inClass
     in-new sieve n w m =
         let z = missed classes class sieve (recordAt first place xs) (and-right _ _ w) n (cut first place xs) m in
         sym (rw (z, and-false (isOf Payments (recordAt first place xs))) (and-false _))
 
-    pub stay : (sieve : List ℕ) → inClass classes class (recordAt first place xs) ≡ false → AllMarked classes class sieve (cut first place xs) → AllMarked classes class sieve (cut first (place + 1) xs)
-    stay sieve w m = rw (cut-snoc first place xs) (keep classes class sieve (cut first place xs) (recordAt first place xs) w m)
+    -- a record that is no suspect repeats nothing; a suspect is walked, while the budget lasts
+    module _ (sieve : List ℕ) (walks : ℕ) where
+      unsuspected : (w n : Bool) → inClass classes class (recordAt first place xs) ≡ w → hasMarks sieve (hashOf (idOf (recordAt first place xs))) ≡ n → (w and n) ≡ false
+          → AllMarked classes class sieve (cut first place xs) → false ≡ repeatsIn classes class first xs place
+      unfolding _and_
+      unsuspected false n e f t m = in-other e
+      unsuspected true n e f t m = in-new sieve (f ∙ t) e m
 
-    pub grow : (sieve after : List ℕ) → length sieve ≡ 1024 → after ≡ withMarks sieve (hashOf (idOf (recordAt first place xs))) → AllMarked classes class sieve (cut first place xs)
-        → AllMarked classes class after (cut first (place + 1) xs)
-    grow sieve after n e m = rw (cut-snoc first place xs, e) (add classes class sieve (cut first place xs) (recordAt first place xs) n m)
+      pub tried-new : isSuspect classes class sieve (recordAt first place xs) ≡ false → AllMarked classes class sieve (cut first place xs) → walks ≤ 64
+          → Tried classes class first xs place false walks
+      unfolding isSuspect
+      tried-new t m h = record { answer = λ l. unsuspected _ _ refl refl t m; budget = λ l. h }
 
-pub sifted-length : (sieve after : List ℕ) (hash : ℕ) → length sieve ≡ 1024 → after ≡ withMarks sieve hash → length after ≡ 1024
-sifted-length sieve after hash n e = rw e (marks-length sieve n hash)
+      pub tried-walked : (s r : Bool) → s ≡ isSuspect classes class sieve (recordAt first place xs) → not s ≡ false → walks ≤ 64
+          → r ≡ repeats Payments (cut first place xs) (recordAt first place xs) → Tried classes class first xs place r walks
+      unfolding isSuspect
+      tried-walked s r q t h e = record { answer = λ l. in-walked r (and-left _ _ (sym q ∙ not-false s t)) e; budget = λ l. h }
+
+    pub tried-spent : (walks : ℕ) → 64 < walks → Tried classes class first xs place true walks
+    tried-spent walks h = record { answer = λ l. absurd (omega arith); budget = λ e. absurd (true≢false e) }
+
+    -- the marks after the record
+    module _ (sieve after : List ℕ) (n : length sieve ≡ 1024) (e : after ≡ sifted classes class sieve (recordAt first place xs)) where
+      grown : (b : Bool) → inClass classes class (recordAt first place xs) ≡ b → AllMarked classes class sieve (cut first place xs)
+          → AllMarked classes class (choose b (withMarks sieve (hashOf (idOf (recordAt first place xs)))) sieve) (cut first place xs ++ recordAt first place xs ∷ [])
+      unfolding choose
+      grown true w m = add classes class sieve (cut first place xs) (recordAt first place xs) n m
+      grown false w m = keep classes class sieve (cut first place xs) (recordAt first place xs) w m
+
+      pub grow : AllMarked classes class sieve (cut first place xs) → AllMarked classes class after (cut first (place + 1) xs)
+      unfolding sifted
+      grow m = rw (cut-snoc first place xs, e) (grown _ refl m)
+
+      sized : (b : Bool) (hash : ℕ) → length (choose b (withMarks sieve hash) sieve) ≡ 1024
+      unfolding choose
+      sized true hash = marks-length sieve n hash
+      sized false hash = n
+
+      pub sifted-length : length after ≡ 1024
+      unfolding sifted
+      sifted-length = rw e (sized _ _)

@@ -19,7 +19,8 @@ use Rattle.record.specs.Ordering.{order}
 use Rattle.record.proofs.Held.{held-length}
 use Rattle.record.proofs.Same.{alike-equal}
 use Rattle.record.proofs.Orders.{before, after, level, Level, turned, order-turned, order-self, order-transitive}
-use Rattle.repeats.specs.Repeats.{member, Topped}
+use Rattle.tables.specs.Tables.{member}
+use Rattle.repeats.specs.Repeats.{Topped}
 use Rattle.repeats.specs.Places.{isAfter}
 
 -- by the first byte

@@ -9,4 +9,7 @@ mod Hashes
 mod Marks
 mod Classes
 mod Passes
+mod Ranges
+mod Visits
+mod Sought
 pub mod Unique

@@ -17,7 +17,7 @@ use Rattle.repeats.specs.Places.{isAfter, rises, raised}
 use Rattle.repeats.proofs.Greatest.{topped-miss, topped-keep, topped-raise}
 
 -- the numbers of one record more
-choose-append : (b : Bool) (x : List ℕ) (xs ys : List (List ℕ)) → choose b (x ∷ (xs ++ ys)) (xs ++ ys) ≡ choose b (x ∷ xs) xs ++ ys
+pub choose-append : (b : Bool) (x : List ℕ) (xs ys : List (List ℕ)) → choose b (x ∷ (xs ++ ys)) (xs ++ ys) ≡ choose b (x ∷ xs) xs ++ ys
 unfolding choose
 choose-append true x xs ys = refl
 choose-append false x xs ys = refl

@@ -16,7 +16,7 @@ use Rattle.nesting.specs.Records.{cut, recordAt}
 use Rattle.repeats.specs.declared.Repeat.the-variants.{At, Nowhere}
 use Rattle.repeats.specs.declared.Sort.the-variants.{Payments}
 use Rattle.repeats.specs.Repeats.{isOf, repeats}
-use Rattle.repeats.specs.Sieve.{idOf, classOf, inClass, repeatsIn, Passed}
+use Rattle.repeats.specs.Sieve.{idOf, classOf, inClass, repeatsIn, Tried, Passed}
 use Rattle.repeats.proofs.Firsts.{wantedRepeat, Seeking, seeking-none, seeking-next, seeking-stop, seeking-end}
 
 -- one pass: no repeat of the class before the place
@@ -28,14 +28,21 @@ module _ (classes class first : ℕ) (xs : List ℕ) where
   unfolding Clean
   clean-none k h = absurd (omega arith)
 
-  module _ (place : ℕ) (r : Bool) (e : r ≡ repeatsIn classes class first xs place) (c : Clean classes class first xs place) where
+  module _ (place : ℕ) (r : Bool) (walks : ℕ) (e : Tried classes class first xs place r walks) (c : Clean classes class first xs place) where
     pub clean-next : r ≡ false → Clean classes class first xs (place + 1)
     unfolding Clean
-    clean-next t k h = ⊎-elim (λ (q : k ≡ place). rw q (sym e ∙ t)) (λ (q : k < place). c k q) (eq-or-lt-of-le (le-of-suc-le-suc (rw (← add-one place) h)))
+    clean-next t k h =
+        ⊎-elim
+        (λ (q : k ≡ place). rw q (sym (e .answer (e .budget t)) ∙ t))
+        (λ (q : k < place). c k q)
+        (eq-or-lt-of-le (le-of-suc-le-suc (rw (← add-one place) h)))
 
-    pub passed-hit : (best : ℕ) → place < best → r ≡ true → Passed classes class first xs best place
+    pub passed-hit : (best : ℕ) → place < best → r ≡ true → walks ≤ 64 → Passed classes class first xs best place
     unfolding Clean
-    passed-hit best h t = record { within = omega arith; clean = c; found = λ l. sym e ∙ t }
+    passed-hit best h t w = record { within = omega arith; clean = c; found = λ l. sym (e .answer w) ∙ t }
+
+  pub tried-budget : (place : ℕ) (r : Bool) (walks : ℕ) → Tried classes class first xs place r walks → r ≡ false → walks ≤ 64
+  tried-budget place r walks e t = e .budget t
 
   pub passed-all : (best place : ℕ) → place ≤ best → best ≤ place → Clean classes class first xs place → Passed classes class first xs best best
   unfolding Clean
@@ -91,7 +98,7 @@ module _ (classes first : ℕ) (xs : List ℕ) (count best c : ℕ) (o : Best cl
 
 -- after all passes
 module _ (first : ℕ) (xs : List ℕ) (count : ℕ) (m : count ≡ length xs / 850) where
-  seek : (place : ℕ) → place ≤ count → ((k : ℕ) → k < place → isRepeat first xs k ≡ false) → Seeking first xs place
+  pub seek : (place : ℕ) → place ≤ count → ((k : ℕ) → k < place → isRepeat first xs k ≡ false) → Seeking first xs place
   unfolding isRepeat
   seek zero l h = seeking-none first xs
   seek (suc place) l h =

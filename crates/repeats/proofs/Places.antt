@@ -47,6 +47,9 @@ module _ (sort : Sort) (f : Field) (e : f ≡ numbering sort) where
   pub field-end : (place : ℕ) (xs : List ℕ) → place * 850 + 850 ≤ length xs → f .start + f .width ≤ length (bytesFrom xs (place * 850)) + 1
   field-end place xs h = rw (e, from-length xs (place * 850) h) (number-end sort)
 
+  pub field-within : f .start + f .width ≤ 851
+  field-within = rw e (number-end sort)
+
   pub as-wide : (greatest : List ℕ) → length greatest ≡ numbering sort .width → length greatest ≡ f .width
   as-wide greatest h = rw e h
 

@@ -11,8 +11,9 @@ use Rattle.record.specs.Tests.{alike}
 use Rattle.record.proofs.Chain.{and-yes, or-yes, or-no}
 use Rattle.nesting.specs.Records.{cut, recordAt}
 use Rattle.nesting.proofs.Cuts.{onward, cut-onward, cut-start}
+use Rattle.tables.specs.Tables.{member}
 use Rattle.repeats.specs.declared.Sort.{Sort}
-use Rattle.repeats.specs.Repeats.{numbering, isOf, numbers, member, repeats}
+use Rattle.repeats.specs.Repeats.{numbering, isOf, numbers, repeats}
 
 pub member-choose : (b : Bool) (x y : List ℕ) (ys : List (List ℕ)) → member x (choose b (y ∷ ys) ys) ≡ ((b and alike y x) or member x ys)
 unfolding member choose _and_ _or_

@@ -1,4 +1,5 @@
 pub mod Repeats
 pub mod Places
 pub mod Sieve
+pub mod Blocks
 pub mod Schedules

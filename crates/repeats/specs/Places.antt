@@ -1,8 +1,7 @@
 -- A record by its place in the bytes, and what is known of the numbers before it.
-use Prim.Native.Nat.{ℕ, _+_, _*_, _<_, _≤_}
+use Prim.Native.Nat.{ℕ}
 use mathlib.Core.Bool.{Bool, true, false, not}
 use mathlib.Core.List.{List}
-use lib.ListN.{length}
 use Rattle.record.specs.declared.Order.{Order}
 use Rattle.record.specs.declared.Order.the-variants.{Before, Same, After}
 use Rattle.record.specs.Choice.{_and_, choose}
@@ -13,10 +12,6 @@ use Rattle.repeats.specs.declared.Sort.{Sort}
 use Rattle.repeats.specs.declared.Sort.the-variants.{Payments}
 use Rattle.repeats.specs.declared.walk.Climbing.{Climbing}
 use Rattle.repeats.specs.Repeats.{numbering, isOf}
-
--- the bytes have a whole record at the place, and its number is small
-abbrev pub Stands : ℕ → ℕ → List ℕ → Type 0
-Stands first place bytes = (place * 850 + 850 ≤ length bytes) × (first + place < 131072)
 
 -- the first stands after the second
 unfoldable pub isAfter : Order → Bool

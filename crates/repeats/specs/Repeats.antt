@@ -1,17 +1,17 @@
 -- Numbers that repeat an earlier one (01 Batch reasons, 6): a batch's schedule number in the file, a Payment ID in its batch.
 use Prim.Native.Nat.{ℕ, _+_}
 use mathlib.Core.Path.{_≡_}
-use mathlib.Core.Bool.{Bool, false}
+use mathlib.Core.Bool.{Bool}
 use mathlib.Core.List.{List, [], _∷_, _++_}
 use Rattle.record.specs.declared.Field.{Field}
 use Rattle.record.specs.declared.Order.the-variants.{After}
-use Rattle.record.specs.Choice.{_and_, _or_, choose}
+use Rattle.record.specs.Choice.{_and_, choose}
 use Rattle.record.specs.Fields.{scheduleNumber, paymentId}
 use Rattle.record.specs.Value.{held}
-use Rattle.record.specs.Tests.{alike}
 use Rattle.record.specs.Ordering.{order}
 use Rattle.record.specs.Codes.{codeOf, isDetail, isHeader}
 use Rattle.nesting.specs.Division.{Record}
+use Rattle.tables.specs.Tables.{member}
 use Rattle.repeats.specs.declared.Repeat.{Repeat}
 use Rattle.repeats.specs.declared.Repeat.the-variants.{At, Nowhere}
 use Rattle.repeats.specs.declared.Sort.{Sort}
@@ -31,11 +31,6 @@ isOf Batches r = isHeader (codeOf r)
 unfoldable pub numbers : Sort → List Record → List (List ℕ)
 numbers sort [] = []
 numbers sort (r ∷ rs) = choose (isOf sort r) (held r (numbering sort) ∷ numbers sort rs) (numbers sort rs)
-
--- one of these numbers
-unfoldable pub member : List ℕ → List (List ℕ) → Bool
-member x [] = false
-member x (y ∷ ys) = alike y x or member x ys
 
 -- the record's number is an earlier one's
 unfoldable pub repeats : Sort → List Record → Record → Bool

@@ -6,7 +6,7 @@ use mathlib.Core.List.{List, [], _∷_}
 use lib.Bits.{bitOr}
 use lib.Dec.{eqb}
 use lib.ListN.{getD, set}
-use Rattle.record.specs.Choice.{_and_}
+use Rattle.record.specs.Choice.{_and_, choose}
 use Rattle.record.specs.Value.{held}
 use Rattle.nesting.specs.Division.{Record}
 use Rattle.nesting.specs.Records.{cut, recordAt}
@@ -68,6 +68,14 @@ classOf classes id = hashOf id / 562949953421312 % classes
 unfoldable pub inClass : ℕ → ℕ → Record → Bool
 inClass classes class r = isOf Payments r and eqb (classOf classes (idOf r)) class
 
+-- the record is a detail of the class, and its ID has its marks: it may repeat one
+unfoldable pub isSuspect : ℕ → ℕ → List ℕ → Record → Bool
+isSuspect classes class sieve r = inClass classes class r and hasMarks sieve (hashOf (idOf r))
+
+-- the sieve after the record: a detail of the class has its marks
+unfoldable pub sifted : ℕ → ℕ → List ℕ → Record → List ℕ
+sifted classes class sieve r = choose (inClass classes class r) (withMarks sieve (hashOf (idOf r))) sieve
+
 -- every detail of the class has its marks
 unfoldable pub AllMarked : ℕ → ℕ → List ℕ → List Record → Type 0
 AllMarked classes class sieve [] = Unit {0}
@@ -77,6 +85,11 @@ AllMarked classes class sieve (r ∷ rs) = (inClass classes class r ≡ true →
 unfoldable pub repeatsIn : ℕ → ℕ → ℕ → List ℕ → ℕ → Bool
 repeatsIn classes class first bytes place =
     inClass classes class (recordAt first place bytes) and repeats Payments (cut first place bytes) (recordAt first place bytes)
+
+-- a trial of that record: it is told while the suspects are in the budget, and a pass that goes on is in it
+pub record Tried (classes class first : ℕ) (bytes : List ℕ) (place : ℕ) (stops : Bool) (walks : ℕ) : Type 0 where
+  pub answer : walks ≤ 64 → stops ≡ repeatsIn classes class first bytes place
+  pub budget : stops ≡ false → walks ≤ 64
 
 -- the first such place before the best, or the best
 pub record Passed (classes class first : ℕ) (bytes : List ℕ) (best place : ℕ) : Type 0 where

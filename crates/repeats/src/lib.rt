@@ -1,4 +1,5 @@
 // Numbers that repeat an earlier one (01 Batch reasons, 6).
+mod blocks;
 mod flags;
 mod sieve;
 mod walk;

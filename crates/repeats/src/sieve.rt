@@ -1,7 +1,9 @@
 // The first repeat of a Payment ID where the IDs do not climb: passes over classes of a hash, each with a sieve of 65,536 bits on the
-// stack. The plain walk is made only where all three marks of an ID are set, so that a batch of many payments costs a few passes.
+// stack. The plain walk is made only where all three marks of an ID are set, so that a batch of many payments costs a few passes; the
+// walks have a budget, so that no choice of IDs makes it cost more.
 use crate::Repeat;
 use crate::Sort;
+use crate::blocks::first_by_blocks;
 use crate::walk::is_of;
 use crate::walk::is_repeated;
 use crate::walk::payment_id;
@@ -11,10 +13,25 @@ ghost use mathlib.Core.List.{[]};
 ghost use Prim.Native.Nat.{_+_, _*_, _/_, _<_, _≤_};
 ghost use lib.ListN.{length};
 ghost use Rattle.nesting.specs.Records.{cut, recordAt};
+ghost use Rattle.tables.specs.Tables.{Stands};
 ghost use Rattle.repeats.specs.declared.Sort.the-variants.{Payments};
 ghost use Rattle.repeats.specs.Repeats.{firstRepeat};
-ghost use Rattle.repeats.specs.Places.{Stands};
-ghost use Rattle.repeats.specs.Sieve.{idOf, wordOf, mixed, hashOf, marked, isMarked, hasMarks, withMarks, inClass, AllMarked, repeatsIn, Passed};
+ghost use Rattle.repeats.specs.Sieve.{wordOf, mixed, hashOf, marked, isMarked, hasMarks, withMarks, isSuspect, sifted, AllMarked, Tried, Passed};
+
+// The suspects of a batch that are walked: past them, blocks decide.
+const WALKS: usize = 64;
+
+// Whether a pass stops at a record, and the suspects counted after it.
+struct Trial {
+    stops: bool,
+    walks: usize,
+}
+
+// Where a pass ends, and the suspects counted after it.
+struct Passing {
+    place: usize,
+    walks: usize,
+}
 
 // Four bytes of an ID as one number.
 fn word(id: [u8; 20], i: usize) -> u64
@@ -86,32 +103,9 @@ fn give_marks(sieve: &mut [u64; 1024], hash: u64)
     mark(sieve, (hash / 4294967296 % 65536) as usize);
 }
 
-// The record at the place is a detail of the class.
-fn is_in_class(part: &[u8], first: usize, place: usize, classes: u64, class: u64) -> bool
-    requires { ⌜ Stands first place (now part) × (0 < classes) ⌝ }
-    ensures { λ r. ⌜ r ≡ inClass classes class (recordAt first place (now (part .entry))) ⌝ }
-{
-    if !is_of(part, first, place, Sort::Payments) {
-        return false;
-    }
-    let hash = hash_of(payment_id(part, first, place));
-    hash / 562949953421312 % classes == class
-}
-
-// Whether the ID of the record at the place has its marks already. It has them after.
-fn sift(part: &[u8], first: usize, place: usize, sieve: &mut [u64; 1024]) -> bool
-    requires { ⌜ Stands first place (now part) ⌝ }
-    ensures answer { λ r. ⌜ r ≡ hasMarks (now (sieve .entry)) (hashOf (idOf (recordAt first place (now (part .entry))))) ⌝ }
-    ensures after { λ r. ⌜ now (sieve .exit) ≡ withMarks (now (sieve .entry)) (hashOf (idOf (recordAt first place (now (part .entry))))) ⌝ }
-{
-    let hash = hash_of(payment_id(part, first, place));
-    let before = has_marks(sieve, hash);
-    give_marks(sieve, hash);
-    before
-}
-
-// The record at the place is a detail of the class that repeats an earlier one. An ID that lacks a mark is new; the others are walked.
-fn repeats_in(
+// Whether the record at the place is a detail of the class whose ID has its marks already: it may repeat one. A detail of the class has
+// its marks after.
+fn sift(
     part: &[u8],
     first: usize,
     place: usize,
@@ -119,38 +113,75 @@ fn repeats_in(
     class: u64,
     sieve: &mut [u64; 1024],
 ) -> bool
-    requires { ⌜ Stands first place (now part) × (0 < classes) × (length (now sieve) ≡ 1024) × AllMarked classes class (now sieve) (cut first place (now part)) ⌝ }
-    ensures answer { λ r. ⌜ r ≡ repeatsIn classes class first (now (part .entry)) place ⌝ }
+    requires { ⌜ Stands first place (now part) × (0 < classes) ⌝ }
+    ensures answer { λ r. ⌜ r ≡ isSuspect classes class (now (sieve .entry)) (recordAt first place (now (part .entry))) ⌝ }
+    ensures after { λ r. ⌜ now (sieve .exit) ≡ sifted classes class (now (sieve .entry)) (recordAt first place (now (part .entry))) ⌝ }
+{
+    if !is_of(part, first, place, Sort::Payments) {
+        return false;
+    }
+    let hash = hash_of(payment_id(part, first, place));
+    if hash / 562949953421312 % classes != class {
+        return false;
+    }
+    let before = has_marks(sieve, hash);
+    give_marks(sieve, hash);
+    before
+}
+
+// Whether the pass stops at the record: a detail of the class that repeats an earlier one, or one suspect too many. An ID that lacks a
+// mark is new; a suspect is counted, and walked while the budget lasts.
+fn try_at(
+    part: &[u8],
+    first: usize,
+    place: usize,
+    classes: u64,
+    class: u64,
+    walks: usize,
+    sieve: &mut [u64; 1024],
+) -> Trial
+    requires { ⌜ Stands first place (now part) × (0 < classes) × (walks ≤ 64) × (length (now sieve) ≡ 1024) × AllMarked classes class (now sieve) (cut first place (now part)) ⌝ }
+    ensures answer { λ r. ⌜ Tried classes class first (now (part .entry)) place (r .stops) (r .walks) ⌝ }
     ensures size { λ r. ⌜ length (now (sieve .exit)) ≡ 1024 ⌝ }
     ensures after { λ r. ⌜ AllMarked classes class (now (sieve .exit)) (cut first (place + 1) (now (part .entry))) ⌝ }
 {
-    if !is_in_class(part, first, place, classes, class) {
-        return false;
+    if !sift(part, first, place, classes, class, sieve) {
+        return Trial {
+            stops: false,
+            walks,
+        };
     }
-    if !sift(part, first, place, sieve) {
-        return false;
+    let walks = walks + 1;
+    if WALKS < walks {
+        return Trial { stops: true, walks };
     }
-    is_repeated(part, first, place, Sort::Payments)
+    let stops = is_repeated(part, first, place, Sort::Payments);
+    Trial { stops, walks }
 }
 
-// The first place before the best at which a detail of the class repeats an earlier one; else the best.
-fn pass(part: &[u8], first: usize, classes: u64, class: u64, best: usize) -> usize
-    requires { ⌜ (length (now part) ≤ 65535 * 850) × (first ≤ 65536) × (best * 850 ≤ length (now part)) × (0 < classes) ⌝ }
-    ensures { λ r. ⌜ Passed classes class first (now (part .entry)) best r ⌝ }
+// The first place before the best at which a detail of the class repeats an earlier one; else the best. A pass that meets too many
+// suspects gives up, and its place says nothing.
+fn pass(part: &[u8], first: usize, classes: u64, class: u64, best: usize, walks: usize) -> Passing
+    requires { ⌜ (length (now part) ≤ 65535 * 850) × (first ≤ 65536) × (best * 850 ≤ length (now part)) × (0 < classes) × (walks ≤ 64) ⌝ }
+    ensures { λ r. ⌜ (r .walks ≤ 64 → Passed classes class first (now (part .entry)) best (r .place)) ⌝ }
 {
     let mut sieve = [0u64; 1024];
+    let mut walks = walks;
     let mut place: usize = 0;
     while place < best {
-        if repeats_in(part, first, place, classes, class, &mut sieve) {
-            return place;
+        let trial = try_at(part, first, place, classes, class, walks, &mut sieve);
+        walks = trial.walks;
+        if trial.stops {
+            return Passing { place, walks };
         }
         place += 1;
     }
-    best
+    Passing { place: best, walks }
 }
 
 // The first repeat. A class for 8,192 records: at least every second record of a batch is no detail (01 Nesting), so that some 4,000 IDs
-// share a sieve, and a new ID meets three marks of others about once in 200 times at the end of a pass.
+// share a sieve, and a new ID meets three marks of others about once in 200 times at the end of a pass. A batch of more suspects than
+// the budget has walks, as IDs of one hash make it, is sought by blocks.
 pub(crate) fn first_by_classes(part: &[u8], first: usize) -> Repeat
     requires { ⌜ (length (now part) ≤ 65535 * 850) × (first ≤ 65536) ⌝ }
     ensures { λ r. ⌜ r ≡ firstRepeat Payments first [] (cut first (length (now (part .entry)) / 850) (now (part .entry))) ⌝ }
@@ -158,9 +189,15 @@ pub(crate) fn first_by_classes(part: &[u8], first: usize) -> Repeat
     let count = part.len() / 850;
     let classes = (count / 8192) as u64 + 1;
     let mut best = count;
+    let mut walks: usize = 0;
     let mut class: u64 = 0;
     while class < classes {
-        best = pass(part, first, classes, class, best);
+        let passing = pass(part, first, classes, class, best, walks);
+        if WALKS < passing.walks {
+            return first_by_blocks(part, first);
+        }
+        best = passing.place;
+        walks = passing.walks;
         class += 1;
     }
     if best < count {

@@ -17,10 +17,11 @@ ghost use Rattle.record.specs.Value.{Has, seen, held};
 ghost use Rattle.record.specs.Tests.{alike};
 ghost use Rattle.record.specs.Ordering.{order};
 ghost use Rattle.nesting.specs.Records.{cut, recordAt};
+ghost use Rattle.tables.specs.Tables.{Stands};
 ghost use Rattle.repeats.specs.declared.Repeat.the-variants.{Nowhere};
 ghost use Rattle.repeats.specs.declared.Sort.the-variants.{Payments, Batches};
 ghost use Rattle.repeats.specs.Repeats.{numbering, isOf, repeats, firstRepeat};
-ghost use Rattle.repeats.specs.Places.{Stands, isAfter, climbed};
+ghost use Rattle.repeats.specs.Places.{isAfter, climbed};
 
 // Whether a payment's ID fails to stand after all those before it, and the greatest ID after it.
 pub(crate) struct Climbing {
@@ -29,7 +30,7 @@ pub(crate) struct Climbing {
 }
 
 // Where the number stands: 004 fields 23 and 6.
-fn number_field(sort: Sort) -> Field
+pub(crate) fn number_field(sort: Sort) -> Field
     ensures { λ r. ⌜ r ≡ numbering sort ⌝ }
 {
     match sort {

@@ -1,1 +1,6 @@
+pub mod Values
+mod Inserts
+mod Seeks
+mod Enters
+pub mod Tables
 pub mod Unique

@@ -106,10 +106,14 @@ pub fn enter(
     }
     if count < table.len() {
         insert(table, count, seat.at, place);
+        let grown = count + 1;
         return Entry {
             known: false,
-            count: count + 1,
+            count: grown,
         };
     }
-    Entry { known: false, count }
+    Entry {
+        known: false,
+        count,
+    }
 }

@@ -27,7 +27,8 @@ number-next-requires : tie.Need-number-next-requires Inv-loop μ-loop
 number-next-requires c κs = search (needs, numberable)
 
 judge-next-requires : tie.Need-judge-next-requires Inv-loop μ-loop
-judge-next-requires c κs = search (needs, opens)
+judge-next-requires c κs =
+    (c .before .before .before .before .before .before .before .before .before .before .before .before .before .before .pre .0, opens (c .before .before .before .before .before .loop .inv) (c .before .before .before .before .loop-test .taken))
 
 row-at-requires : tie.Need-row-at-requires Inv-loop μ-loop
 row-at-requires c κs = search (needs, row-few)
@@ -36,13 +37,16 @@ write-row-requires-2 : tie.Need-write-row-requires-2 Inv-loop μ-loop
 write-row-requires-2 c κs = search (needs, row-fits)
 
 add-written : tie.Need-add-written Inv-loop μ-loop
-add-written c = search (needs, row-few)
+add-written c = let h = row-few (c .before .before .before .before .before .before .before .before .before .before .before .before .before .loop .inv) (c .before .before .before .before .before .before .before .before .before .before .before .before .loop-test .taken) in search needs
 
 loop-less : tie.Need-loop-less Inv-loop μ-loop
 loop-less c = search needs
 
 loop-again : tie.Need-loop-again Inv-loop μ-loop
-loop-again c = search (needs, turned)
+loop-again c =
+    let n = c .before .before .before .before .before .before .before .before .before .before .number-next .ensures in
+    turned (c .before .before .before .before .before .before .before .before .before .before .before .before .before .loop .inv) (c .before .before .before .before .before .before .before .before .before .before .before .before .loop-test .taken) _ _ (n .0) (n .1) _ _ _ (c .before .before .before .before .before .before .before .judge-next .ensures) (c .before .before .before .before .before .row-at .ensures)
+    (c .before .before .before .write-row2 .ensures)
 
 same-length : tie.Need-same-length Inv-loop μ-loop
 same-length c = search (needs, all-kept)

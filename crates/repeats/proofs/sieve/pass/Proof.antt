@@ -4,22 +4,22 @@ use lib.ListN.{length}
 use Rattle.nesting.specs.Records.{cut}
 use Rattle.repeats.specs.Sieve.{AllMarked}
 use Rattle.repeats.proofs.Classes.{marked-none}
-use Rattle.repeats.proofs.Passes.{Clean, clean-none, clean-next, passed-hit, passed-all}
+use Rattle.repeats.proofs.Passes.{Clean, clean-none, clean-next, tried-budget, passed-hit, passed-all}
 use borrow.Author.Needs.{needs}
 use Rattle.repeats.proofs.sieve.pass.Statement.{statement}
 use Rattle.repeats.proofs.sieve.pass.Tie as tie
 
 abbrev Inv-loop : tie.InvT-loop
-Inv-loop part first classes class best sieve₀ place₀ sieve place = (place ≤ best) × (length sieve ≡ 1024) × AllMarked classes class sieve (cut first place part) × Clean classes class first part place
+Inv-loop part first classes class best walks sieve₀ walks₀ place₀ sieve walks' place = (place ≤ best) × (walks' ≤ 64) × (length sieve ≡ 1024) × AllMarked classes class sieve (cut first place part) × Clean classes class first part place
 
 abbrev μ-loop : tie.MeasureT-loop
-μ-loop part first classes class best sieve₀ place₀ sieve place = best - place
+μ-loop part first classes class best walks sieve₀ walks₀ place₀ sieve walks' place = best - place
 
 loop-holds : tie.Need-loop-holds Inv-loop μ-loop
 loop-holds c = search (needs, marked-none, clean-none)
 
-repeats-in-requires : tie.Need-repeats-in-requires Inv-loop μ-loop
-repeats-in-requires c κs = search needs
+try-at-requires : tie.Need-try-at-requires Inv-loop μ-loop
+try-at-requires c κs = search needs
 
 returns : tie.Need-returns Inv-loop μ-loop
 returns c = search (needs, passed-hit)
@@ -31,7 +31,9 @@ loop-less : tie.Need-loop-less Inv-loop μ-loop
 loop-less c = search needs
 
 loop-again : tie.Need-loop-again Inv-loop μ-loop
-loop-again c = search (needs, clean-next)
+loop-again c =
+    let q = clean-next _ _ _ _ _ _ _ (c .before .try-at .ensures .0) (c .before .before .before .before .loop .inv .4) (c .if1 .left) in
+    search (needs, tried-budget)
 
 returns-2 : tie.Need-returns-2 Inv-loop μ-loop
 returns-2 c = search (needs, passed-all)
@@ -43,7 +45,7 @@ pass-spec =
     Inv-loop
     μ-loop
     loop-holds
-    repeats-in-requires
+    try-at-requires
     returns
     add-place
     loop-less
