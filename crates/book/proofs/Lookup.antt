@@ -3,7 +3,7 @@
 use mathlib.Core.Path.{_≡_, refl, sym, _∙_}
 use mathlib.Core.Bool.{Bool, true, false, not}
 use mathlib.Core.List.{List, [], _∷_}
-use Prim.Native.Nat.{ℕ, zero, suc, _+_, _-_, _*_, _/_, _≤_, _<_}
+use Prim.Native.Nat.{ℕ, zero, suc, _+_, _-_, _*_, _≤_, _<_}
 use native.Mathlib.Nat.{suc-mul, zero-mul, add-comm, add-sub-cancel-left}
 use native.Mathlib.Omega.{arith}
 use lib.Dec.{eqb}
@@ -20,7 +20,7 @@ use Rattle.record.specs.Ordering.{order}
 use Rattle.record.proofs.Chain.{and-left, and-right, choose-yes, choose-no}
 use Rattle.record.proofs.Same.{alike-equal, alike-self}
 use Rattle.record.proofs.Orders.{before-not, told-before, order-transitive}
-use Rattle.record.proofs.Bracket.{Bracket, raised, lowered, same-is, end-none}
+use Rattle.record.proofs.Bracket.{Bracket, middle, raised, lowered, same-is, end-none}
 use Rattle.book.specs.declared.Kind.{Kind}
 use Rattle.book.specs.declared.Section.{Section}
 use Rattle.book.specs.declared.search.Listing.{Listing}
@@ -103,10 +103,6 @@ entries-length book s = cut-count _ _ _
 part-is : (book : List ℕ) (s : Section) (m : ℕ) → m < s .count → partAt book s m ≡ getD (entriesAt book s) m []
 unfolding entriesAt
 part-is book s m h = rw add-sub-cancel-left (sym (cut-at _ _ _ m h ∙ rw drop-drop))
-
--- the entry that is looked at next
-abbrev middle : ℕ → ℕ → ℕ
-middle low high = low + (high - low) / 2
 
 -- what a search for the code x knows
 abbrev pub Sought : List ℕ → Section → List ℕ → ℕ → ℕ → Type 0

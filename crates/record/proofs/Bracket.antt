@@ -3,12 +3,16 @@
 use mathlib.Core.Path.{_≡_}
 use mathlib.Core.List.{List}
 use mathlib.Core.Logic.{⊎-elim}
-use Prim.Native.Nat.{ℕ, _+_, _-_, _≤_, _<_}
+use Prim.Native.Nat.{ℕ, _+_, _-_, _/_, _≤_, _<_}
 use native.Mathlib.Nat.{eq-or-lt-of-le, eq-zero-or-pos}
 use native.Mathlib.Omega.{arith}
 use Rattle.record.specs.declared.Order.the-variants.{Before, Same, After}
 use Rattle.record.specs.Ordering.{order}
 use Rattle.record.proofs.Orders.{turn-before, turn-after, order-equal, before-not, after-not, order-transitive}
+
+-- the key that is looked at next
+abbrev pub middle : ℕ → ℕ → ℕ
+middle low high = low + (high - low) / 2
 
 module _ (key : ℕ → List ℕ) (count : ℕ) (x : List ℕ) where
   -- every key below low stands before x, and every key from high on after it
