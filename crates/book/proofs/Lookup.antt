@@ -3,9 +3,8 @@
 use mathlib.Core.Path.{_≡_, refl, sym, _∙_}
 use mathlib.Core.Bool.{Bool, true, false, not}
 use mathlib.Core.List.{List, [], _∷_}
-use mathlib.Core.Logic.{⊎-elim}
-use Prim.Native.Nat.{ℕ, zero, suc, _+_, _-_, _*_, _/_, _≤_, _<_}
-use native.Mathlib.Nat.{eq-or-lt-of-le, eq-zero-or-pos, suc-mul, zero-mul, add-comm, add-sub-cancel-left}
+use Prim.Native.Nat.{ℕ, zero, suc, _+_, _-_, _*_, _≤_, _<_}
+use native.Mathlib.Nat.{suc-mul, zero-mul, add-comm, add-sub-cancel-left}
 use native.Mathlib.Omega.{arith}
 use lib.Dec.{eqb}
 use borrow.Author.Tests.{ne-eqb}
@@ -17,10 +16,11 @@ use Rattle.record.specs.declared.Order.the-variants.{Before, Same, After}
 use Rattle.record.specs.Value.{Has, held, seen}
 use Rattle.record.specs.Choice.{choose}
 use Rattle.record.specs.Tests.{blank, alike}
-use Rattle.record.specs.Ordering.{order, isBefore}
+use Rattle.record.specs.Ordering.{order}
 use Rattle.record.proofs.Chain.{and-left, and-right, choose-yes, choose-no}
 use Rattle.record.proofs.Same.{alike-equal, alike-self}
-use Rattle.record.proofs.Orders.{order-equal, order-self, order-transitive}
+use Rattle.record.proofs.Orders.{before-not, told-before, order-transitive}
+use Rattle.record.proofs.Bracket.{Bracket, middle, raised, lowered, same-is, end-none}
 use Rattle.book.specs.declared.Kind.{Kind}
 use Rattle.book.specs.declared.Section.{Section}
 use Rattle.book.specs.declared.search.Listing.{Listing}
@@ -35,25 +35,12 @@ cut-at w zero xs j h = absurd (omega arith)
 cut-at w (suc n) xs zero h = rw zero-mul
 cut-at w (suc n) xs (suc j) h = cut-at w n (drop w xs) j (omega arith) ∙ rw (drop-drop, suc-mul, add-comm w (j * w))
 
--- a code is not one that it stands before
-unlike : (xs ys : List ℕ) → order xs ys ≡ Before → xs ≡ ys → ⊥
-unlike xs ys b e =
-    let s = order-self ys in
-    let z : _≡_ {A = ℕ} 0 1 = cc in
-    omega arith
-
 apart : (xs ys : List ℕ) → (xs ≡ ys → ⊥) → alike xs ys ≡ false
 apart xs ys d = go (alike xs ys) refl
   where
     go : (t : Bool) → alike xs ys ≡ t → t ≡ false
     go true e = absurd (d (alike-equal xs ys e))
     go false e = refl
-
-told-before : (o : Order) → isBefore o ≡ true → o ≡ Before
-unfolding isBefore
-told-before Before e = refl
-told-before Same e = absurd (let z : _≡_ {A = ℕ} 0 1 = cc in omega arith)
-told-before After e = absurd (let z : _≡_ {A = ℕ} 0 1 = cc in omega arith)
 
 module _ (width : ℕ) where
   -- the code of entry j
@@ -89,7 +76,7 @@ module _ (width : ℕ) where
 
   -- an entry of a section is found by its code
   pub present : (es : List (List ℕ)) (x : List ℕ) (m : ℕ) → ascend width es ≡ true → m < length es → key es m ≡ x → getD es m [] ≡ entryFor width es x
-  present es x m u h k = first es x m h k (λ j l q. unlike _ _ (ascends es u j m l h) (q ∙ sym k))
+  present es x m u h k = first es x m h k (λ j l q. before-not _ _ (ascends es u j m l h) (q ∙ sym k))
 
   -- and a code that no entry has is not found
   pub absent : (es : List (List ℕ)) (x : List ℕ) → ((j : ℕ) → j < length es → key es j ≡ x → ⊥) → [] ≡ entryFor width es x
@@ -117,28 +104,13 @@ part-is : (book : List ℕ) (s : Section) (m : ℕ) → m < s .count → partAt 
 unfolding entriesAt
 part-is book s m h = rw add-sub-cancel-left (sym (cut-at _ _ _ m h ∙ rw drop-drop))
 
--- the entry that is looked at next
-abbrev middle : ℕ → ℕ → ℕ
-middle low high = low + (high - low) / 2
+-- what a search for the code x knows
+abbrev pub Sought : List ℕ → Section → List ℕ → ℕ → ℕ → Type 0
+Sought book s x low high = Bracket (keyAt book s) (s .count) x low high
 
--- what a binary search knows: no entry before low has the code x, and none from high on
-pub record Bracket (book : List ℕ) (s : Section) (x : List ℕ) (low high : ℕ) : Type 0 where
-  pub ordered : low ≤ high
-  pub inside : high ≤ s .count
-  pub below : (j : ℕ) → j < low → keyAt book s j ≡ x → ⊥
-  pub above : (j : ℕ) → high ≤ j → j < s .count → keyAt book s j ≡ x → ⊥
-
-pub opened : (book : List ℕ) (s : Section) (x : List ℕ) → Bracket book s x 0 (s .count)
-opened book s x = record {
-  ordered = omega arith;
-  inside = omega arith;
-  below = λ j l. absurd (omega arith);
-  above = λ j l h. absurd (omega arith);
-}
-
-module _ {book : List ℕ} {s : Section} {x : List ℕ} {low high : ℕ} (b : Bracket book s x low high) where
+module _ (book : List ℕ) (s : Section) (x : List ℕ) (low high : ℕ) (b : Sought book s x low high) where
   inner : low < high → middle low high < s .count
-  inner l = omega arith
+  inner l = omega (arith, b .inside)
 
   -- the middle entry ends where the section ends, or before
   pub fits : low < high → middle low high * s .entry + s .entry ≤ s .count * s .entry
@@ -155,12 +127,7 @@ module _ {book : List ℕ} {s : Section} {x : List ℕ} {low high : ℕ} (b : Br
         (omega arith, simp (add-sub-cancel-left, length-take, length-drop) (omega arith))
 
     pub missed : high ≤ low → [] ≡ entryFor (s .code) (entriesAt book s) x
-    missed h =
-        absent _ _ _ (λ j l.
-        ⊎-elim
-        (λ (q : low - j ≡ 0). b .above j (omega arith) (omega (arith, entries-length book s)))
-        (λ (q : 0 < low - j). b .below j (omega arith))
-        (eq-zero-or-pos (low - j)))
+    missed h = absent _ _ _ (λ j l. end-none (keyAt book s) (s .count) x low high b h j (omega (arith, entries-length book s)))
 
     -- r is how the middle entry stands to x
     module _ (r : Order) (lt : low < high) (e : r ≡ order (held (seen lent (partAt book s (middle low high))) (codeField s)) x) where
@@ -171,33 +138,14 @@ module _ {book : List ℕ} {s : Section} {x : List ℕ} {low high : ℕ} (b : Br
 
       pub hit : r ≡ Same → partAt book s (middle low high) ≡ entryFor (s .code) (entriesAt book s) x
       hit t =
-          let k : keyAt book s (middle low high) ≡ x = order-equal _ _ (sym known ∙ t) in
-          part-is book s (middle low high) (inner lt) ∙ present _ _ _ _ (sh .ascending) (omega (arith, entries-length book s)) k
+          let k : keyAt book s (middle low high) ≡ x = same-is (keyAt book s) (s .count) x up (middle low high) (sym known ∙ t) in
+          part-is book s (middle low high) (inner lt) ∙ present _ _ _ _ (sh .ascending) (omega (arith, inner lt, entries-length book s)) k
 
-      pub raised : r ≡ Before → Bracket book s x (middle low high + 1) high
-      raised t = record {
-        ordered = omega arith;
-        inside = b .inside;
-        below = λ j l q. ⊎-elim
-            (λ (i : j ≡ middle low high). unlike _ _ (sym known ∙ t) (rw (← i) q))
-            (λ (i : j < middle low high). unlike _ _ (order-transitive _ _ _ (up j _ i (inner lt)) (sym known ∙ t)) q)
-            (eq-or-lt-of-le (omega arith));
-        above = b .above;
-      }
+      pub sought-raised : r ≡ Before → Sought book s x (middle low high + 1) high
+      sought-raised t = raised (keyAt book s) (s .count) x up (middle low high) low high b (omega arith) (sym known ∙ t)
 
-      pub lowered : r ≡ After → Bracket book s x low (middle low high)
-      lowered t = record {
-        ordered = omega arith;
-        inside = omega arith;
-        below = b .below;
-        above = λ j l h q.
-            let k = known in
-            let u = order-self x in
-            ⊎-elim
-            (λ (i : middle low high ≡ j). let z : _≡_ {A = ℕ} 0 1 = cc in omega arith)
-            (λ (i : middle low high < j). let v = up _ j i h in let z : _≡_ {A = ℕ} 0 1 = cc in omega arith)
-            (eq-or-lt-of-le l);
-      }
+      pub sought-lowered : r ≡ After → Sought book s x low (middle low high)
+      sought-lowered t = lowered (keyAt book s) (s .count) x up (middle low high) low high b (omega arith) (omega arith) (sym known ∙ t)
 
 -- what is shorter than an entry with a flag has none
 pub no-flag : (e : List ℕ) → length e < 9 → false ≡ flagOf e

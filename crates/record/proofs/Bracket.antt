@@ -1,33 +1,18 @@
 -- A binary search over keys that ascend: what it knows of the keys outside its bounds, and of all where it ends.
 -- Assumes nothing.
-use mathlib.Core.Path.{_≡_, sym, ap, _∙_}
+use mathlib.Core.Path.{_≡_}
 use mathlib.Core.List.{List}
 use mathlib.Core.Logic.{⊎-elim}
-use Prim.Native.Nat.{ℕ, _+_, _-_, _≤_, _<_}
+use Prim.Native.Nat.{ℕ, _+_, _-_, _/_, _≤_, _<_}
 use native.Mathlib.Nat.{eq-or-lt-of-le, eq-zero-or-pos}
 use native.Mathlib.Omega.{arith}
 use Rattle.record.specs.declared.Order.the-variants.{Before, Same, After}
 use Rattle.record.specs.Ordering.{order}
-use Rattle.record.proofs.Orders.{turned, order-turned, order-equal, order-self, order-transitive}
+use Rattle.record.proofs.Orders.{turn-before, turn-after, order-equal, before-not, after-not, order-transitive}
 
--- the other way round
-pub turn-before : (xs ys : List ℕ) → order xs ys ≡ Before → order ys xs ≡ After
-unfolding turned
-turn-before xs ys e = order-turned xs ys ∙ ap turned e
-
-pub turn-after : (xs ys : List ℕ) → order xs ys ≡ After → order ys xs ≡ Before
-unfolding turned
-turn-after xs ys e = order-turned xs ys ∙ ap turned e
-
--- a key is none that it stands before, and none that it stands after
-pub before-not : (xs ys : List ℕ) → order xs ys ≡ Before → xs ≡ ys → ⊥
-before-not xs ys b e =
-    let s = order-self ys in
-    let z : _≡_ {A = ℕ} 0 1 = cc in
-    omega arith
-
-pub after-not : (xs ys : List ℕ) → order xs ys ≡ After → xs ≡ ys → ⊥
-after-not xs ys a e = before-not ys xs (turn-after xs ys a) (sym e)
+-- the key that is looked at next
+abbrev pub middle : ℕ → ℕ → ℕ
+middle low high = low + (high - low) / 2
 
 module _ (key : ℕ → List ℕ) (count : ℕ) (x : List ℕ) where
   -- every key below low stands before x, and every key from high on after it

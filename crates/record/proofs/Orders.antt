@@ -1,6 +1,7 @@
 -- The order of values by bytes: total, and read from the front.
 -- Assumes nothing.
 use mathlib.Core.Path.{_≡_, refl, sym, ap, _∙_}
+use mathlib.Core.Bool.{true, true≢false}
 use mathlib.Core.List.{List, [], _∷_}
 use Prim.Native.Nat.{ℕ, zero, suc, _+_, _≤_, _<_, min}
 use native.Mathlib.Numerals.{add-one}
@@ -13,7 +14,7 @@ use Rattle.record.specs.declared.Order.{Order}
 use Rattle.record.specs.declared.Order.the-variants.{Before, Same, After}
 use Rattle.record.specs.Choice.{choose}
 use Rattle.record.specs.Place.{Within, value}
-use Rattle.record.specs.Ordering.{order}
+use Rattle.record.specs.Ordering.{order, isBefore}
 use Rattle.record.proofs.Every.{value-length}
 
 -- by the first byte
@@ -64,6 +65,14 @@ order-turned (x ∷ xs) (y ∷ ys) = go (side x y) (order-turned xs ys)
     go (more h) m = before y x ys xs h ∙ ap turned (sym (after x y xs ys h))
     go (same h k) m = level y x ys xs k h ∙ m ∙ ap turned (sym (level x y xs ys h k))
 
+pub turn-before : (xs ys : List ℕ) → order xs ys ≡ Before → order ys xs ≡ After
+unfolding turned
+turn-before xs ys e = order-turned xs ys ∙ ap turned e
+
+pub turn-after : (xs ys : List ℕ) → order xs ys ≡ After → order ys xs ≡ Before
+unfolding turned
+turn-after xs ys e = order-turned xs ys ∙ ap turned e
+
 -- the order decides equality, and no value comes before itself
 pub order-equal : (xs ys : List ℕ) → order xs ys ≡ Same → xs ≡ ys
 unfolding order
@@ -84,6 +93,22 @@ pub order-self : (xs : List ℕ) → order xs xs ≡ Same
 unfolding order
 order-self [] = refl
 order-self (x ∷ xs) = level x x xs xs (omega arith) (omega arith) ∙ order-self xs
+
+pub before-not : (xs ys : List ℕ) → order xs ys ≡ Before → xs ≡ ys → ⊥
+before-not xs ys b e =
+    let s = order-self ys in
+    let z : _≡_ {A = ℕ} 0 1 = cc in
+    omega arith
+
+pub after-not : (xs ys : List ℕ) → order xs ys ≡ After → xs ≡ ys → ⊥
+after-not xs ys a e = before-not ys xs (turn-after xs ys a) (sym e)
+
+-- what the test of an order tells
+pub told-before : (o : Order) → isBefore o ≡ true → o ≡ Before
+unfolding isBefore
+told-before Before e = refl
+told-before Same e = absurd (true≢false (sym e))
+told-before After e = absurd (true≢false (sym e))
 
 pub order-transitive : (xs ys zs : List ℕ) → order xs ys ≡ Before → order ys zs ≡ Before → order xs zs ≡ Before
 unfolding order

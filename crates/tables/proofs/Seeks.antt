@@ -4,7 +4,7 @@ use mathlib.Core.Path.{_≡_, refl, sym, ap, _∙_}
 use mathlib.Core.Bool.{true, false}
 use mathlib.Core.List.{List, [], _∷_, _++_}
 use mathlib.Core.Logic.{⊎-elim}
-use Prim.Native.Nat.{ℕ, zero, suc, _+_, _-_, _*_, _/_, _≤_, _<_}
+use Prim.Native.Nat.{ℕ, zero, suc, _+_, _*_, _≤_, _<_}
 use native.Mathlib.Nat.{eq-or-lt-of-le}
 use native.Mathlib.Omega.{arith}
 use lib.ListN.{length, take, getD}
@@ -14,7 +14,7 @@ use Rattle.record.specs.declared.Order.{Order}
 use Rattle.record.specs.declared.Order.the-variants.{Before, Same, After}
 use Rattle.record.specs.Value.{held}
 use Rattle.record.specs.Ordering.{order, isBefore}
-use Rattle.record.proofs.Bracket.{Bracket, raised, lowered, same-is, same-below, same-above, end-above, end-none}
+use Rattle.record.proofs.Bracket.{Bracket, middle, raised, lowered, same-is, same-below, same-above, end-above, end-none}
 use Rattle.nesting.proofs.Cuts.{recordFrom, from-place}
 use Rattle.tables.specs.Tables.{Stands, Tabled, valueAt, valuesAt, kept, member, rank}
 use Rattle.tables.proofs.Values.{Parted, parted-rank, member-at, member-none, after-tells, same-tells}
@@ -23,10 +23,6 @@ use Rattle.tables.proofs.Values.{Parted, parted-rank, member-at, member
 pub ordered-at : (first place other : ℕ) (field : Field) (xs : List ℕ) (r : Order) → r ≡ order (held (recordFrom xs (first + place) (place * 850)) field) (held (recordFrom xs (first + other) (other * 850)) field)
     → r ≡ order (valueAt first field xs place) (valueAt first field xs other)
 ordered-at first place other field xs r h = h ∙ rw (from-place first place xs, from-place first other xs)
-
--- the seat that is looked at next
-abbrev pub middle : ℕ → ℕ → ℕ
-middle low high = low + (high - low) / 2
 
 module _ (first : ℕ) (field : Field) (bytes : List ℕ) where
   values-length : (ps : List ℕ) → length (valuesAt first field bytes ps) ≡ length ps

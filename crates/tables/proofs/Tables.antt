@@ -13,7 +13,7 @@ use Rattle.record.specs.declared.Order.the-variants.{Before}
 use Rattle.record.specs.Choice.{_or_}
 use Rattle.record.specs.Tests.{alike}
 use Rattle.record.specs.Ordering.{order}
-use Rattle.record.proofs.Bracket.{turn-after}
+use Rattle.record.proofs.Orders.{turn-after}
 use Rattle.tables.specs.declared.Entry.{Entry}
 use Rattle.tables.specs.Tables.{Stands, Tabled, valueAt, valuesAt, kept, member, rank, insertedAt, isKnown, entryOf, tableAfter}
 use Rattle.tables.proofs.Values.{Parted, rank-parted, parted-after, member-between}

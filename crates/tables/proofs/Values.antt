@@ -12,7 +12,7 @@ use Rattle.record.specs.Choice.{_or_, choose}
 use Rattle.record.specs.Tests.{alike}
 use Rattle.record.specs.Ordering.{order, isBefore}
 use Rattle.record.proofs.Same.{alike-equal, alike-self}
-use Rattle.record.proofs.Orders.{order-equal, order-transitive}
+use Rattle.record.proofs.Orders.{order-equal, told-before, order-transitive}
 use Rattle.tables.specs.Tables.{member, rank}
 
 or-assoc : (a b c : Bool) → (a or (b or c)) ≡ ((a or b) or c)
@@ -37,13 +37,7 @@ unfolding _or_
 or-right true b e = absurd (true≢false e)
 or-right false b e = e
 
--- the order of one value to another, told by the test
-pub told-before : (o : Order) → isBefore o ≡ true → o ≡ Before
-unfolding isBefore
-told-before Before e = refl
-told-before Same e = absurd (true≢false (sym e))
-told-before After e = absurd (true≢false (sym e))
-
+-- what the test of an order says of each
 pub before-tells : (o : Order) → o ≡ Before → isBefore o ≡ true
 unfolding isBefore
 before-tells o e = rw e

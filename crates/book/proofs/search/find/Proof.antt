@@ -1,12 +1,13 @@
 use borrow.Author.Needs.{needs}
 use Prim.Native.Nat.{_-_}
 use Rattle.record.specs.Value.{seen, held}
-use Rattle.book.proofs.Lookup.{Bracket, opened, fits, readable, missed, hit, raised, lowered}
+use Rattle.record.proofs.Bracket.{opened}
+use Rattle.book.proofs.Lookup.{Sought, fits, readable, missed, hit, sought-raised, sought-lowered}
 use Rattle.book.proofs.search.find.Statement.{statement}
 use Rattle.book.proofs.search.find.Tie as tie
 
 abbrev Inv-loop : tie.InvT-loop
-Inv-loop book rec line field start entry code low₀ high₀ low high = Bracket book (record { start = start; count = high₀; code = code .width; entry = entry }) (held (seen line rec) field) low high
+Inv-loop book rec line field start entry code low₀ high₀ low high = Sought book (record { start = start; count = high₀; code = code .width; entry = entry }) (held (seen line rec) field) low high
 
 abbrev μ-loop : tie.MeasureT-loop
 μ-loop book rec line field start entry code low₀ high₀ low high = high - low
@@ -21,13 +22,13 @@ add-middle : tie.Need-add-middle Inv-loop μ-loop
 add-middle c = search needs
 
 mul-at : tie.Need-mul-at Inv-loop μ-loop
-mul-at c = let room = fits (c .before .loop .inv) (c .loop-test .taken) in search needs
+mul-at c = let room = fits _ _ _ _ _ (c .before .loop .inv) (c .loop-test .taken) in search needs
 
 add-at : tie.Need-add-at Inv-loop μ-loop
-add-at c = let room = fits (c .before .loop .inv) (c .loop-test .taken) in search needs
+add-at c = let room = fits _ _ _ _ _ (c .before .loop .inv) (c .loop-test .taken) in search needs
 
 add-end : tie.Need-add-end Inv-loop μ-loop
-add-end c = let room = fits (c .before .loop .inv) (c .loop-test .taken) in search needs
+add-end c = let room = fits _ _ _ _ _ (c .before .loop .inv) (c .loop-test .taken) in search needs
 
 sub-fields-order : tie.Need-sub-fields-order Inv-loop μ-loop
 sub-fields-order c = search needs
@@ -36,10 +37,10 @@ part-fields-order-start : tie.Need-part-fields-order-start Inv-loop μ-loop
 part-fields-order-start c = search needs
 
 part-fields-order-end : tie.Need-part-fields-order-end Inv-loop μ-loop
-part-fields-order-end c = let room = fits (c .before .loop .inv) (c .loop-test .taken) in search needs
+part-fields-order-end c = let room = fits _ _ _ _ _ (c .before .loop .inv) (c .loop-test .taken) in search needs
 
 fields-order-requires : tie.Need-fields-order-requires Inv-loop μ-loop
-fields-order-requires c κs = (readable (c .before .before .loop .inv) (search needs) (search needs), search needs)
+fields-order-requires c κs = (readable _ _ _ _ _ (c .before .before .loop .inv) (search needs) (search needs), search needs)
 
 enum-told : tie.Need-enum-told Inv-loop μ-loop
 enum-told c = search needs
@@ -51,7 +52,7 @@ loop-less : tie.Need-loop-less Inv-loop μ-loop
 loop-less c = search needs
 
 loop-again : tie.Need-loop-again Inv-loop μ-loop
-loop-again c = search raised
+loop-again c = search sought-raised
 
 enum-told-2 : tie.Need-enum-told-2 Inv-loop μ-loop
 enum-told-2 c = search needs
@@ -61,7 +62,7 @@ loop-less-2 c = search needs
 
 -- by hand: a search loses itself between the old bracket and the new
 loop-again-2 : tie.Need-loop-again-2 Inv-loop μ-loop
-loop-again-2 c = lowered (c .before .before .before .before .before .loop .inv) (search needs) _ (search needs) (c .before .before .fields-order .ensures) (search needs)
+loop-again-2 c = sought-lowered _ _ _ _ _ (c .before .before .before .before .before .loop .inv) (search needs) _ (search needs) (c .before .before .fields-order .ensures) (search needs)
 
 enum-told-3 : tie.Need-enum-told-3 Inv-loop μ-loop
 enum-told-3 c = search needs
@@ -73,7 +74,7 @@ part-result-start : tie.Need-part-result-start Inv-loop μ-loop
 part-result-start c = search needs
 
 part-result-end : tie.Need-part-result-end Inv-loop μ-loop
-part-result-end c = let room = fits (c .before .before .before .before .before .loop .inv) (c .before .before .before .before .loop-test .taken) in search needs
+part-result-end c = let room = fits _ _ _ _ _ (c .before .before .before .before .before .loop .inv) (c .before .before .before .before .loop-test .taken) in search needs
 
 returns : tie.Need-returns Inv-loop μ-loop
 returns c = search hit
