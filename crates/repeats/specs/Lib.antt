@@ -1,3 +1,4 @@
 pub mod Repeats
 pub mod Places
+pub mod Climb
 pub mod Sieve

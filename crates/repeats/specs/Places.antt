@@ -1,6 +1,6 @@
 -- A record by its place in the bytes, and what is known of the numbers before it.
 use Prim.Native.Nat.{ℕ, _+_, _*_, _<_, _≤_}
-use mathlib.Core.Bool.{Bool, true, false, not}
+use mathlib.Core.Bool.{Bool, true, false}
 use mathlib.Core.List.{List}
 use lib.ListN.{length}
 use Rattle.record.specs.declared.Order.{Order}
@@ -11,9 +11,8 @@ use Rattle.record.specs.Ordering.{order}
 use Rattle.nesting.specs.Division.{Record}
 use Rattle.nesting.specs.Records.{cut, recordAt}
 use Rattle.repeats.specs.declared.Sort.{Sort}
-use Rattle.repeats.specs.declared.Sort.the-variants.{Payments, Batches}
+use Rattle.repeats.specs.declared.Sort.the-variants.{Batches}
 use Rattle.repeats.specs.declared.Look.{Look}
-use Rattle.repeats.specs.declared.walk.Climbing.{Climbing}
 use Rattle.repeats.specs.Repeats.{numbering, isOf, repeats}
 
 -- the bytes have a whole record at the place, and its number is small
@@ -37,7 +36,3 @@ raised sort r greatest = choose (rises sort r greatest) (held r (numbering sort)
 -- what a look at the record at the place finds: whether it repeats an earlier batch's number, and the greatest number after it
 unfoldable pub looked : List ℕ → ℕ → List ℕ → Look
 looked file place greatest = record { repeats = repeats Batches (cut 1 place file) (recordAt 1 place file); greatest = raised Batches (recordAt 1 place file) greatest }
-
--- what one record does to a climb: whether it is a detail whose ID does not stand after the greatest, and the greatest ID after it
-unfoldable pub climbed : Record → List ℕ → Climbing
-climbed r greatest = record { falls = isOf Payments r and not (isAfter (order (held r (numbering Payments)) greatest)); greatest = raised Payments r greatest }
