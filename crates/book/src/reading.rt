@@ -8,8 +8,8 @@ use record::Order;
 ghost use mathlib.Core.Path.{_≡_};
 ghost use Prim.Native.Nat.{_≤_, _<_, _+_};
 ghost use lib.ListN.{length, take, drop};
-ghost use Rattle.book.specs.Book.{entryCode, isBefore, ascend, entriesAt, Opened, nowhere, shut};
-ghost use Rattle.record.specs.Ordering.{order};
+ghost use Rattle.book.specs.Book.{entryCode, ascend, entriesAt, Opened, nowhere, shut};
+ghost use Rattle.record.specs.Ordering.{order, isBefore};
 ghost use Rattle.book.specs.Reading.{sizeAt, kindAt, flags, lost, begun, bound, ended, framed, soundIn, Readable, Kinded, Framed, sectionAt, sectionAfter};
 
 // The kinds of document 01: number, bytes of a code, bytes of an entry.
