@@ -45,6 +45,13 @@ legal-detail : (l : Letter) (p : Payment) → LegalPayment (letterByte l) p → 
 unfolding codeBytes isDetail
 legal-detail l p g = detail-is (code.Detail l) true (p .detail) refl (g .detail)
 
+-- a batch begins with none
+pub header-none : (b : Batch) → LegalBatch b → isOf Payments (b .header) ≡ false
+unfolding codeBytes isDetail
+header-none b g =
+    let l = lettered (g .letter) (g .listed) in
+    detail-is (code.Batch (l .0)) false (b .header) refl (g .header ∙ ap batchCode (l .1))
+
 -- the first repeat is not before the first record
 at-or-later : (t : Bool) (n m : ℕ) (later : Repeat) → m < n → isAt later m ≡ false → isAt (choose t (At n) later) m ≡ false
 unfolding isAt choose
@@ -207,7 +214,6 @@ module _ (book : Contents) where
       let answer = firstRepeat Payments n [] (batchLines b) in
       let gs : All (LegalPayment (letterByte (l .0))) (b .payments) = rw (← l .1) (g .payments) in
       let start : Seeking answer n [] (batchLines b) = record { seen = []; known = refl; left = refl } in
-      let o = detail-is (code.Batch (l .0)) false (b .header) refl (g .header ∙ ap batchCode (l .1)) in
-      let s = seeking-other answer n [] (b .header) _ start o in
+      let s = seeking-other answer n [] (b .header) _ start (header-none b g) in
       let heads = findings (context (b .header) repeats false (headerCodes book (b .header)) []) n (b .header) (rulesFor (letterOf (b .header)) header) in
       sym (after-sound _) ∙ behind heads _ _ (before _ _ _ (same answer (b .header) (l .0) _ (b .payments) (n + 1) [] gs s)) sound ∙ after-sound _
