@@ -4,6 +4,7 @@ mod Marked
 mod Repeated
 mod Ends
 mod Adequate
+mod Trailers
 mod Turns
 mod Judged
 pub mod Examples

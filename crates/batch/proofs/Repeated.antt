@@ -24,7 +24,8 @@ use Rattle.nesting.proofs.Coding.{of-bytes, lettered}
 use Rattle.repeats.specs.declared.Repeat.{Repeat}
 use Rattle.repeats.specs.declared.Repeat.the-variants.{At}
 use Rattle.repeats.specs.declared.Sort.the-variants.{Payments}
-use Rattle.repeats.specs.Repeats.{numbering, isOf, numbers, member, repeats, firstRepeat}
+use Rattle.tables.specs.Tables.{member}
+use Rattle.repeats.specs.Repeats.{numbering, isOf, numbers, repeats, firstRepeat}
 use Rattle.repeats.proofs.Looks.{numbers-snoc}
 use Rattle.reasons.specs.declared.Finding.{Finding}
 use Rattle.reasons.specs.Findings.{sound, first, noted, after}
@@ -44,6 +45,13 @@ detail-is c t r e h = ap isDetail (of-bytes c r h) ∙ e
 legal-detail : (l : Letter) (p : Payment) → LegalPayment (letterByte l) p → isOf Payments (p .detail) ≡ true
 unfolding codeBytes isDetail
 legal-detail l p g = detail-is (code.Detail l) true (p .detail) refl (g .detail)
+
+-- a batch begins with none
+pub header-none : (b : Batch) → LegalBatch b → isOf Payments (b .header) ≡ false
+unfolding codeBytes isDetail
+header-none b g =
+    let l = lettered (g .letter) (g .listed) in
+    detail-is (code.Batch (l .0)) false (b .header) refl (g .header ∙ ap batchCode (l .1))
 
 -- the first repeat is not before the first record
 at-or-later : (t : Bool) (n m : ℕ) (later : Repeat) → m < n → isAt later m ≡ false → isAt (choose t (At n) later) m ≡ false
@@ -207,7 +215,6 @@ module _ (book : Contents) where
       let answer = firstRepeat Payments n [] (batchLines b) in
       let gs : All (LegalPayment (letterByte (l .0))) (b .payments) = rw (← l .1) (g .payments) in
       let start : Seeking answer n [] (batchLines b) = record { seen = []; known = refl; left = refl } in
-      let o = detail-is (code.Batch (l .0)) false (b .header) refl (g .header ∙ ap batchCode (l .1)) in
-      let s = seeking-other answer n [] (b .header) _ start o in
+      let s = seeking-other answer n [] (b .header) _ start (header-none b g) in
       let heads = findings (context (b .header) repeats false (headerCodes book (b .header)) []) n (b .header) (rulesFor (letterOf (b .header)) header) in
       sym (after-sound _) ∙ behind heads _ _ (before _ _ _ (same answer (b .header) (l .0) _ (b .payments) (n + 1) [] gs s)) sound ∙ after-sound _

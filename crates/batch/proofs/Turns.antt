@@ -1,9 +1,9 @@
 -- The loop over a batch's records: what is left of them decides, and there is room for each.
 -- Assumes nothing.
-use mathlib.Core.Path.{_≡_, refl, sym, _∙_}
+use mathlib.Core.Path.{_≡_, refl, sym, ap, _∙_}
 use mathlib.Core.Bool.{Bool, true, false}
 use mathlib.Core.List.{List, _∷_}
-use Prim.Native.Nat.{ℕ, suc, _+_, _-_, _*_, _/_, _%_, _<_, _≤_}
+use Prim.Native.Nat.{ℕ, suc, _+_, _-_, _*_, _/_, _<_, _≤_}
 use native.Mathlib.Omega.{arith}
 use lib.ListN.{length, take, drop, length-take}
 use Rattle.record.specs.declared.Field.{Field}
@@ -12,7 +12,8 @@ use Rattle.record.specs.declared.codes.Code.{Code}
 use Rattle.record.specs.declared.codes.Code.the-variants as code
 use Rattle.record.specs.Fields.{amount, accountAmount, procurementAmount}
 use Rattle.record.specs.Value.{Has, seen, held}
-use Rattle.record.specs.Codes.{codeOf}
+use Rattle.record.specs.Choice.{choose}
+use Rattle.record.specs.Codes.{codeOf, isTrailer}
 use Rattle.record.proofs.Held.{held-length}
 use Rattle.money.specs.Money as money
 use Rattle.money.specs.Money.{worth, split, cents}
@@ -22,11 +23,16 @@ use Rattle.nesting.specs.Division.{Record}
 use Rattle.nesting.specs.Records.{lineOf, cut}
 use Rattle.nesting.proofs.Cuts.{bytesFrom, from-length, recordFrom, cut-next}
 use Rattle.repeats.specs.declared.Repeat.{Repeat}
+use Rattle.repeats.specs.declared.climb.Climbing.{Climbing}
+use Rattle.repeats.specs.Climb.{climbed}
 use Rattle.rules.specs.declared.Context.{Context}
 use Rattle.rules.specs.Rules.{Kept}
+use Rattle.batch.specs.declared.pass.Walked.{Walked}
 use Rattle.batch.specs.declared.payment.Open.{Open}
 use Rattle.batch.specs.declared.walk.State.{State}
-use Rattle.batch.specs.Walk.{Own, Room, isAt, opened, withAccount, withProcurement, knowing, head, opening, detailed, partied, accounted, procured, trailed, stepOf, run}
+use Rattle.batch.specs.Batch.{Judgeable}
+use Rattle.batch.specs.Walk.{Own, Room, isAt, opened, withAccount, withProcurement, knowing, head, opening, detailed, partied, accounted, procured, trailed, stepOf, noClimb, toTrailer, started, taken, takenBy, walkOf}
+use Rattle.batch.proofs.Trailers.{first-record}
 use Rattle.batch.proofs.Rooms.{small-cents, small-plus, small-later, own-later, serial-below, kept-paying}
 
 -- a payment of which only the detail was read has room
@@ -167,68 +173,99 @@ module _ (line : Line) (rec : List ℕ) (l : length rec ≡ 850) where
     room-step code.FileTrailer repeats h = room-later
     room-step code.Unknown repeats h = room-later
 
--- the first record of the part, as it is seen
-abbrev pub top : List ℕ → ℕ → Record
-top part first = seen (lineOf first) (take 850 part)
+-- one record more
+pub took : (book : Contents) (repeat : Repeat) (n : ℕ) (r : Record) (w : Walked) (s : State) (c : Climbing) (marked : Bool) → marked ≡ isAt repeat n
+    → s ≡ stepOf book (codeOf r) (w .state) n r marked → c ≡ climbed r (w .climbing) → record { state = s; climbing = c; records = w .records + 1 } ≡ taken book repeat n r w
+unfolding taken
+took book repeat n r w s c marked m e k = rw (e, k, m)
 
--- the walk over all records but the first
-abbrev pub walked : Contents → List ℕ → ℕ → Bool → Repeat → State
-walked book part first repeats rep =
-    run book (isAt rep) (first + 1) (opening book repeats first (top part first)) (cut (first + 1) (length part / 850 - 1) (drop 850 part))
+-- room for the record n, under a name that is shut: the bounds of amounts are too large for the arithmetic of places
+unfoldable pub Roomy : ℕ → State → Type 0
+Roomy n s = Room n s
 
--- the records before n have been walked, up to `at`; the walk over the rest is the walk over all
-pub record Walking (book : Contents) (part : List ℕ) (first : ℕ) (repeats : Bool) (rep : Repeat) (s : State) (n at : ℕ) : Type 0 where
-  pub place : at + first * 850 ≡ n * 850
-  pub later : first < n
-  pub within : at ≤ length part
-  pub room : Room n s
-  pub left : walked book part first repeats rep ≡ run book (isAt rep) n s (cut n (length part / 850 - (n - first)) (drop at part))
+-- so many records have been walked, up to `at`, and no BT behind the header: the walk over the others is the walk over all
+pub record Walking (book : Contents) (rest : List ℕ) (first : ℕ) (repeats : Bool) (repeat : Repeat) (w : Walked) (at : ℕ) : Type 0 where
+  pub judgeable : Judgeable first rest
+  pub place : at ≡ w .records * 850
+  pub some : 1 ≤ w .records
+  pub within : at ≤ length rest
+  pub room : Roomy (first + w .records) (w .state)
+  pub left : walkOf book repeats repeat first rest ≡ takenBy book repeat (first + w .records) (toTrailer (cut (first + w .records) (length rest / 850 - w .records) (drop at rest))) w
 
-module _ (book : Contents) (part : List ℕ) (first : ℕ) (repeats : Bool) (rep : Repeat) (w : length part % 850 ≡ 0) where
-  pub begun : (s : State) → 850 ≤ length part → s ≡ opening book repeats first (top part first)
-      → Walking book part first repeats rep s (first + 1) 850
-  begun s h e =
-      let k : first + 1 - first ≡ 1 = omega arith in
-      let l : length (take 850 part) ≡ 850 = simp length-take (omega arith) in
+module _ {book : Contents} {rest : List ℕ} {first : ℕ} {repeats : Bool} {repeat : Repeat} where
+  pub begun : {s : State} → Judgeable first rest → s ≡ opening book repeats first (seen (lineOf first) (take 850 rest))
+      → Walking book rest first repeats repeat (record { state = s; climbing = noClimb; records = 1 }) 850
+  unfolding walkOf started Roomy
+  begun j e =
+      let h = first-record j in
+      let l : length (take 850 rest) ≡ 850 = simp length-take (omega arith) in
       rw e
       (record {
-        place = omega arith;
-        later = omega arith;
+        judgeable = j;
+        place = refl;
+        some = omega arith;
         within = h;
-        room = room-opening (lineOf first) (take 850 part) l book repeats first first;
-        left = rw k;
+        room = room-opening (lineOf first) (take 850 rest) l book repeats first first;
+        left = refl;
       })
 
-  module _ (s : State) (n at : ℕ) (i : Walking book part first repeats rep s n at) where
-    pub here-length : at < length part → length (bytesFrom part at) ≡ 850
-    here-length h = from-length part at (omega (arith, w, i .place, i .later))
+  module _ {w : Walked} {at : ℕ} (i : Walking book rest first repeats repeat w at) where
+    -- the record that begins at `at`
+    abbrev here : Record
+    here = recordFrom rest (first + w .records) at
 
-    left-next : at < length part → cut n (length part / 850 - (n - first)) (drop at part) ≡ recordFrom part n at ∷ cut (n + 1) (length part / 850 - (n + 1 - first)) (drop (at + 850) part)
-    left-next h =
-        let e : length part / 850 - (n - first) ≡ suc (length part / 850 - (n + 1 - first)) = omega (arith, w, i .place, i .later) in
-        rw e (cut-next part n at (length part / 850 - (n + 1 - first)))
+    pub room-here : Room (first + w .records) (w .state)
+    unfolding Roomy
+    room-here = i .room
 
-    pub turned : (t : State) (marked : Bool) → at < length part → n ≤ 65535 → marked ≡ isAt rep n → t ≡ stepOf book (codeOf (recordFrom part n at)) s n (recordFrom part n at) marked
-        → Walking book part first repeats rep t (n + 1) (at + 850)
-    unfolding run
-    turned t marked h few m e =
-        record {
-          place = omega (arith, i .place);
-          later = omega (arith, i .later);
-          within = omega (arith, w, i .place, i .later);
-          room =
-              rw e
-              (room-step (lineOf n) (bytesFrom part at) (here-length h) book n s (i .room)
-              (codeOf (recordFrom part n at)) marked few);
-          left = i .left ∙ rw (left-next h, e, m);
-        }
+    module _ (h : at < length rest) where
+      -- its end, its number, its bytes
+      pub end-within : at + 850 ≤ length rest
+      end-within = omega (arith, i .judgeable .whole, i .place)
 
-    pub finished : length part ≤ at → s ≡ walked book part first repeats rep
-    unfolding run cut
+      pub end-few : at + 850 ≤ 55705600
+      end-few = omega (arith, i .judgeable .few, end-within)
+
+      pub number-few : first + w .records ≤ 65535
+      number-few = omega (arith, i .judgeable .few, end-within, i .place)
+
+      pub records-few : w .records ≤ 65535
+      records-few = omega (arith, number-few)
+
+      pub here-length : length (bytesFrom rest at) ≡ 850
+      here-length = from-length rest at end-within
+
+      left-next : cut (first + w .records) (length rest / 850 - w .records) (drop at rest)
+          ≡ here ∷ cut (first + w .records + 1) (length rest / 850 - (w .records + 1)) (drop (at + 850) rest)
+      left-next =
+          let e : length rest / 850 - w .records ≡ suc (length rest / 850 - (w .records + 1)) = omega (arith, end-within, i .place) in
+          rw e (cut-next rest (first + w .records) at (length rest / 850 - (w .records + 1)))
+
+      -- it is a BT, or none, by its code
+      module _ {t : Walked} {k : Code} {x : Bool} (e : t ≡ taken book repeat (first + w .records) here w) (o : k ≡ codeOf here) (z : x ≡ isTrailer k) where
+        pub turned : x ≡ false → Walking book rest first repeats repeat t (at + 850)
+        unfolding taken takenBy toTrailer choose Roomy
+        turned f =
+            let m : first + (w .records + 1) ≡ first + w .records + 1 = omega arith in
+            let p : isTrailer (codeOf here) ≡ false = ap isTrailer (sym o) ∙ sym z ∙ f in
+            rw e
+            (record {
+              judgeable = i .judgeable;
+              place = omega (arith, i .place);
+              some = omega arith;
+              within = end-within;
+              room = rw m (room-step (lineOf (first + w .records)) (bytesFrom rest at) here-length book (first + w .records) (w .state) room-here (codeOf here) _ number-few);
+              left = i .left ∙ rw (left-next, p, m);
+            })
+
+        pub ended : x ≡ true → t ≡ walkOf book repeats repeat first rest
+        unfolding takenBy toTrailer choose
+        ended f =
+            let p : isTrailer (codeOf here) ≡ true = ap isTrailer (sym o) ∙ sym z ∙ f in
+            sym (i .left ∙ rw (left-next, p, e))
+
+    pub finished : length rest ≤ at → w ≡ walkOf book repeats repeat first rest
+    unfolding takenBy toTrailer cut
     finished h =
-        let e : length part / 850 - (n - first) ≡ 0 = omega (arith, i .place, i .later) in
+        let e : length rest / 850 - w .records ≡ 0 = omega (arith, i .place) in
         sym (i .left ∙ rw e)
-
-    -- the numbers of the records
-    pub number-room : at < length part → first + length part / 850 ≤ 65536 → n ≤ 65535
-    number-room h few = omega (arith, w, i .place, i .later)

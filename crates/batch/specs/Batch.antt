@@ -18,7 +18,7 @@ use Rattle.book.specs.Book.{Contents, listing}
 use Rattle.nesting.specs.Division.{Record, Payment, Batch, LegalBatch, batchLines}
 use Rattle.nesting.specs.Paid.{paid, paidBy}
 use Rattle.nesting.specs.Records.{cut}
-use Rattle.repeats.specs.Repeats.{member}
+use Rattle.tables.specs.Tables.{member}
 use Rattle.reasons.specs.declared.Finding.{Finding}
 use Rattle.reasons.specs.Findings.{found, first}
 use Rattle.rules.specs.declared.Codes.{Codes}
@@ -194,18 +194,19 @@ module _ (book : Contents) where
         finding = first (batchFindings repeats n b);
       }
 
--- the part is the records of the batch; the first has this number
-pub record BatchOf (n : ℕ) (part : List ℕ) (b : Batch) : Type 0 where
+-- the rest of a file begins with the records of the batch; the first has this number, and more may follow
+pub record BatchOf (n : ℕ) (rest : List ℕ) (b : Batch) : Type 0 where
   pub legal : LegalBatch b
-  pub whole : batchLines b ≡ cut n (length part / 850) part
+  pub more : List Record
+  pub whole : batchLines b ++ more ≡ cut n (length rest / 850) rest
 
--- the part is whole records, with numbers of at most 65,535, and they are those of a batch
-pub record Judgeable (n : ℕ) (part : List ℕ) : Type 0 where
+-- the rest is whole records, with numbers of at most 65,535, and it begins with a batch
+pub record Judgeable (n : ℕ) (rest : List ℕ) : Type 0 where
   pub numbered : 1 ≤ n
-  pub whole : length part % 850 ≡ 0
-  pub few : n + length part / 850 ≤ 65536
-  pub batch : (b : Batch) × BatchOf n part b
+  pub whole : length rest % 850 ≡ 0
+  pub few : n + length rest / 850 ≤ 65536
+  pub batch : (b : Batch) × BatchOf n rest b
 
--- the row is that of the batch whose records the part is
+-- the row is that of the batch with which the rest begins
 abbrev pub IsRow : Contents → Bool → ℕ → List ℕ → Row → Type 0
-IsRow book repeats n part row = (b : Batch) → BatchOf n part b → row ≡ rowOf book repeats n b
+IsRow book repeats n rest row = (b : Batch) → BatchOf n rest b → row ≡ rowOf book repeats n b

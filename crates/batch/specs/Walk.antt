@@ -1,30 +1,35 @@
 -- How the walk goes from record to record. No promise to other crates rests on it: the proofs tie it to Batch.antt.
 use mathlib.Core.Bool.{Bool, false}
 use mathlib.Core.List.{List, [], _∷_, _++_}
-use Prim.Native.Nat.{ℕ, _+_, _-_, _*_, _<_}
+use Prim.Native.Nat.{ℕ, _+_, _-_, _*_, _/_, _<_}
 use lib.Dec.{eqb, leb}
+use lib.ListN.{length, take, drop, replicate}
 use Rattle.record.specs.declared.codes.Letter.the-variants.{N}
 use Rattle.record.specs.declared.codes.Code.{Code}
 use Rattle.record.specs.declared.codes.Code.the-variants as code
 use Rattle.record.specs.Choice.{_and_, choose}
 use Rattle.record.specs.Fields.{summaryTotalAmount, agencyLocationCode, checkSymbolNumber, amount, paymentLocationCode, accountAmount, procurementAmount}
-use Rattle.record.specs.Value.{held}
+use Rattle.record.specs.Value.{seen, held}
 use Rattle.record.specs.Tests.{blank}
-use Rattle.record.specs.Codes.{codeOf, letterIn}
+use Rattle.record.specs.Codes.{codeOf, isTrailer, letterIn}
 use Rattle.money.specs.declared.Amount.{Amount}
 use Rattle.money.specs.Money as money
 use Rattle.money.specs.Money.{worth, split, cents, Whole, comesTo}
 use Rattle.book.specs.declared.search.Listing.{Listing}
 use Rattle.book.specs.Book.{Contents}
 use Rattle.nesting.specs.Division.{Record}
+use Rattle.nesting.specs.Records.{lineOf, cut}
 use Rattle.repeats.specs.declared.Repeat.{Repeat}
 use Rattle.repeats.specs.declared.Repeat.the-variants.{At, Nowhere}
+use Rattle.repeats.specs.declared.climb.Climbing.{Climbing}
+use Rattle.repeats.specs.Climb.{climbed}
 use Rattle.reasons.specs.declared.Finding.{Finding}
 use Rattle.reasons.specs.Findings.{found, sound, after}
 use Rattle.rules.specs.declared.Codes.{Codes}
 use Rattle.rules.specs.declared.Context.{Context}
 use Rattle.rules.specs.Rules.{check, among, header, detail, party, account, procurement, loneProcurement, trailer, rulesFor, findings, Kept}
 use Rattle.batch.specs.declared.Row.{Row}
+use Rattle.batch.specs.declared.pass.Walked.{Walked}
 use Rattle.batch.specs.declared.payment.Open.{Open}
 use Rattle.batch.specs.declared.walk.Header.{Header}
 use Rattle.batch.specs.declared.walk.State.{State}
@@ -148,6 +153,15 @@ last s n r =
 unfoldable pub trailed : State → ℕ → Record → State
 trailed s n r = knowing s (after (after (s .finding) (ended (s .payment))) (last s n r)) (s .payment) (s .accounts)
 
+-- the records up to the first BT, with it: a batch ends with its BT (01 Nesting); all where there is none
+unfoldable pub toTrailer : List Record → List Record
+toTrailer [] = []
+toTrailer (r ∷ rs) = r ∷ choose (isTrailer (codeOf r)) [] (toTrailer rs)
+
+-- no Payment ID yet
+abbrev pub noClimb : Climbing
+noClimb = record { falls = false; greatest = replicate 20 0 }
+
 module _ (book : Contents) where
   -- what the header says
   unfoldable pub head : ℕ → Record → Header
@@ -217,6 +231,28 @@ module _ (book : Contents) where
   unfoldable pub run : (ℕ → Bool) → ℕ → State → List Record → State
   run repeats n s [] = s
   run repeats n s (r ∷ rs) = run repeats (n + 1) (stepOf (codeOf r) s n r (repeats n)) rs
+
+  -- what is known after the header, and after one record more
+  unfoldable pub started : Bool → ℕ → Record → Walked
+  started repeats n h = record { state = opening repeats n h; climbing = noClimb; records = 1 }
+
+  unfoldable pub taken : Repeat → ℕ → Record → Walked → Walked
+  taken repeat n r w =
+      record {
+        state = stepOf (codeOf r) (w .state) n r (isAt repeat n);
+        climbing = climbed r (w .climbing);
+        records = w .records + 1;
+      }
+
+  -- after records, the first of which has this number
+  unfoldable pub takenBy : Repeat → ℕ → List Record → Walked → Walked
+  takenBy repeat n [] w = w
+  takenBy repeat n (r ∷ rs) w = takenBy repeat (n + 1) rs (taken repeat n r w)
+
+  -- the walk: the header, and the records behind it up to the first BT
+  unfoldable pub walkOf : Bool → Repeat → ℕ → List ℕ → Walked
+  walkOf repeats repeat n rest =
+      takenBy repeat (n + 1) (toTrailer (cut (n + 1) (length rest / 850 - 1) (drop 850 rest))) (started repeats n (seen (lineOf n) (take 850 rest)))
 
 -- the row at the end of the walk
 unfoldable pub rowAt : State → ℕ → ℕ → Row

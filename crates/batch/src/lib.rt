@@ -1,18 +1,19 @@
-// One batch over its records (01 Batch reasons, Sums, Report): one walk, nothing copied, one row.
+// One batch over its records (01 Batch reasons, Sums, Report): one walk, nothing copied but a Payment ID that rises, one row.
 mod lookups;
+mod pass;
 mod payment;
 mod walk;
 
 use book::Book;
 use money::Amount;
+use pass::Walked;
 use reasons::Finding;
-use record::Line;
 use repeats::Repeat;
-use walk::State;
 ghost use mathlib.Core.Path.{_≡_};
 ghost use Rattle.book.specs.Book.{Usable, listedAt};
+ghost use Rattle.repeats.specs.declared.Repeat.the-variants.{Nowhere};
 ghost use Rattle.batch.specs.Batch.{Judgeable, IsRow};
-ghost use Rattle.batch.specs.Walk.{isAt, rowAt};
+ghost use Rattle.batch.specs.Walk.{walkOf, rowAt};
 
 // What the report says of a batch (01 Report): the number of its first record, its record count, its payments, their exact total,
 // and the first finding, of reason 0 where the batch is sound.
@@ -24,20 +25,12 @@ pub struct Row {
     pub finding: Finding,
 }
 
-// The record with this number is the one that repeats.
-fn is_at(repeat: Repeat, number: usize) -> bool
-    ensures { λ r. ⌜ r ≡ isAt repeat number ⌝ }
-{
-    match repeat {
-        Repeat::At(place) => place == number,
-        Repeat::Nowhere => false,
-    }
-}
-
 // The row at the end of the walk: the total and the counts stand there whatever was found.
-fn row_of(state: State, first_record: usize, records: usize) -> Row
-    ensures { λ r. ⌜ r ≡ rowAt state first_record records ⌝ }
+fn row_of(walked: Walked, first_record: usize) -> Row
+    ensures { λ r. ⌜ r ≡ rowAt (walked .state) first_record (walked .records) ⌝ }
 {
+    let records = walked.records;
+    let state = walked.state;
     let total = state.total;
     let finding = state.finding;
     Row {
@@ -49,25 +42,39 @@ fn row_of(state: State, first_record: usize, records: usize) -> Row
     }
 }
 
-// The row of the batch whose records are the part of the file; the first has the number `first`, and its schedule number repeats an
-// earlier batch's or not.
-pub fn judge_batch(book: &[u8], shelves: Book, part: &[u8], first: usize, repeats: bool) -> Row
-    requires { ⌜ Usable (now book) shelves × Judgeable first (now part) ⌝ }
-    ensures { λ r. ⌜ IsRow (listedAt (now (book .entry)) shelves) repeats first (now (part .entry)) r ⌝ }
+// The row where a Payment ID fell: where one repeats an earlier one, the batch is walked again with the first that does.
+fn judge_fallen(
+    book: &[u8],
+    shelves: Book,
+    rest: &[u8],
+    first: usize,
+    repeats: bool,
+    walked: Walked,
+) -> Row
+    requires { ⌜ Usable (now book) shelves × Judgeable first (now rest) × (walked ≡ walkOf (listedAt (now book) shelves) repeats Nowhere first (now rest)) ⌝ }
+    ensures { λ r. ⌜ IsRow (listedAt (now (book .entry)) shelves) repeats first (now (rest .entry)) r ⌝ }
 {
-    let repeat = repeats::first_repeat(part, first);
-    let opening = Line { number: first };
-    let mut state = walk::open_batch(book, shelves, &part[0..850], opening, repeats);
-    let mut number = first + 1;
-    let mut at: usize = 850;
-    while at < part.len() {
-        let end = at + 850;
-        let line = Line { number };
-        let repeated = is_at(repeat, number);
-        state = walk::step(book, shelves, &part[at..end], line, state, repeated);
-        number += 1;
-        at = end;
+    let end = walked.records * 850;
+    let repeat = repeats::first_repeat(&rest[0..end], first);
+    match repeat {
+        Repeat::At(_) => {
+            let again = pass::walk_batch(book, shelves, rest, first, repeats, repeat);
+            row_of(again, first)
+        }
+        Repeat::Nowhere => row_of(walked, first),
     }
-    let records = part.len() / 850;
-    row_of(state, first, records)
+}
+
+// The row of the batch that begins the rest of the file; its header has the number `first`, and its schedule number repeats an earlier
+// batch's or not. Where the Payment IDs climb, one walk tells all.
+pub fn judge_batch(book: &[u8], shelves: Book, rest: &[u8], first: usize, repeats: bool) -> Row
+    requires { ⌜ Usable (now book) shelves × Judgeable first (now rest) ⌝ }
+    ensures { λ r. ⌜ IsRow (listedAt (now (book .entry)) shelves) repeats first (now (rest .entry)) r ⌝ }
+{
+    let walked = pass::walk_batch(book, shelves, rest, first, repeats, Repeat::Nowhere);
+    let climbing = walked.climbing;
+    if climbing.falls {
+        return judge_fallen(book, shelves, rest, first, repeats, walked);
+    }
+    row_of(walked, first)
 }

@@ -387,13 +387,13 @@ pub(crate) fn step(
     shelves: Book,
     rec: &[u8],
     line: Line,
+    code: Code,
     state: State,
     repeats: bool,
 ) -> State
-    requires { ⌜ Usable (now book) shelves × (length (now rec) ≡ 850) × Room (line .number) state × (line .number ≤ 65535) ⌝ }
+    requires { ⌜ Usable (now book) shelves × (length (now rec) ≡ 850) × (code ≡ codeOf (seen line (now rec))) × Room (line .number) state × (line .number ≤ 65535) ⌝ }
     ensures { λ r. ⌜ r ≡ stepOf (listedAt (now (book .entry)) shelves) (codeOf (seen line (now (rec .entry)))) state (line .number) (seen line (now (rec .entry))) repeats ⌝ }
 {
-    let code = code_of(rec, line);
     match code {
         Code::FileHeader => state,
         Code::Batch(_) => state,

@@ -1,7 +1,7 @@
 -- A file with one batch: the batch's records are the part between FH and FT.
 -- Assumes nothing.
-use mathlib.Core.Path.{_≡_, refl, sym}
-use mathlib.Core.List.{List, [], _∷_}
+use mathlib.Core.Path.{_≡_, refl, sym, _∙_}
+use mathlib.Core.List.{List, [], _∷_, append-nil}
 use Prim.Native.Nat.{ℕ, _+_, _*_, _/_, _-_, _≤_}
 use native.Mathlib.Omega.{arith}
 use lib.ListN.{length, take, drop, length-drop, length-append}
@@ -49,7 +49,7 @@ part f w d h b e g =
             numbered = omega arith;
             whole = omega (arith, l);
             few = omega (arith, l, s, w .few);
-            batch = (b, record { legal = g; whole = sym (rw (q, k) (batch-part f w d h [] b [] e)) });
+            batch = (b, record { legal = g; more = []; whole = append-nil (batchLines b) ∙ sym (rw (q, k) (batch-part f w d h [] b [] e)) });
           };
     }
 

@@ -5,12 +5,13 @@ use mathlib.Core.List.{List}
 use Prim.Native.Nat.{ℕ, _+_, _*_, _<_, _≤_}
 use lib.ListN.{length, take, getD, set}
 use Rattle.record.specs.declared.Field.{Field}
-use Rattle.record.specs.Value.{Has, held}
+use Rattle.record.specs.declared.Line.{Line}
+use Rattle.record.specs.Value.{Has, seen, held}
 use Rattle.record.proofs.Held.{held-length}
 use Rattle.record.proofs.Copies.{copy-more, copy-whole}
 use Rattle.nesting.specs.Division.{Record}
-use Rattle.nesting.specs.Records.{lineOf, recordAt}
-use Rattle.nesting.proofs.Cuts.{bytesFrom, recordFrom, from-place}
+use Rattle.nesting.specs.Records.{recordAt}
+use Rattle.nesting.proofs.Cuts.{recordFrom, from-place}
 
 -- the first i bytes are copied
 unfoldable pub Copied : List ℕ → List ℕ → ℕ → Type 0
@@ -20,13 +21,15 @@ pub copied-none : (copy number : List ℕ) → Copied copy number 0
 unfolding Copied
 copied-none copy number = refl
 
-module _ (first place : ℕ) (xs : List ℕ) (f : Field) (h : Has (bytesFrom xs (place * 850)) f) (copy : List ℕ) (n : length copy ≡ f .width) (i : ℕ) (l : Copied copy (held (recordFrom xs (first + place) (place * 850)) f) i) where
-  pub copied-next : (y : ℕ) → i < f .width → y ≡ getD (held (recordFrom xs (first + place) (place * 850)) f) i 0 → Copied (set copy i y) (held (recordFrom xs (first + place) (place * 850)) f) (i + 1)
+module _ (line : Line) (rec : List ℕ) (f : Field) (h : Has rec f) (copy : List ℕ) (n : length copy ≡ f .width) (i : ℕ) (l : Copied copy (held (seen line rec) f) i) where
+  pub copied-next : (y : ℕ) → i < f .width → y ≡ getD (held (seen line rec) f) i 0 → Copied (set copy i y) (held (seen line rec) f) (i + 1)
   unfolding Copied
-  copied-next y k e = copy-more copy _ i (f .width) y n (held-length (lineOf (first + place)) (bytesFrom xs (place * 850)) f h) k e l
+  copied-next y k e = copy-more copy _ i (f .width) y n (held-length line rec f h) k e l
 
-  pub copied-whole : f .width ≤ i → copy ≡ held (recordAt first place xs) f
+  pub copied-whole : f .width ≤ i → copy ≡ held (seen line rec) f
   unfolding Copied
-  copied-whole k =
-      copy-whole copy _ i (f .width) n (held-length (lineOf (first + place)) (bytesFrom xs (place * 850)) f h) k l
-      ∙ ap (λ (r : Record). held r f) (from-place first place xs)
+  copied-whole k = copy-whole copy _ i (f .width) n (held-length line rec f h) k l
+
+-- out of the record at a place
+pub copied-there : (first place : ℕ) (xs : List ℕ) (f : Field) (copy : List ℕ) → copy ≡ held (recordFrom xs (first + place) (place * 850)) f → copy ≡ held (recordAt first place xs) f
+copied-there first place xs f copy e = e ∙ ap (λ (r : Record). held r f) (from-place first place xs)

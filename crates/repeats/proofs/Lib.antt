@@ -3,6 +3,7 @@ mod Copies
 mod Greatest
 mod Walks
 pub mod Looks
+pub mod Climbs
 mod Firsts
 pub mod Schedules
 mod Hashes

@@ -12,7 +12,8 @@ use Rattle.record.specs.Ordering.{order}
 use Rattle.nesting.specs.Records.{cut, recordAt}
 use Rattle.nesting.proofs.Cuts.{cut-onward, cut-snoc}
 use Rattle.repeats.specs.declared.Sort.the-variants.{Batches}
-use Rattle.repeats.specs.Repeats.{numbering, isOf, numbers, member, Topped}
+use Rattle.tables.specs.Tables.{member}
+use Rattle.repeats.specs.Repeats.{numbering, isOf, numbers, Topped}
 use Rattle.repeats.specs.Places.{isAfter}
 use Rattle.repeats.specs.Schedules.{flagsOf, Noted, numbersBefore, numbersFrom, numberAt, Batched, goesUp, falls, numbered, flagged}
 use Rattle.repeats.proofs.Greatest.{topped-miss, topped-raise}

@@ -1,6 +1,6 @@
 -- A record by its place in the bytes, and what is known of the numbers before it.
 use Prim.Native.Nat.{ℕ}
-use mathlib.Core.Bool.{Bool, true, false, not}
+use mathlib.Core.Bool.{Bool, true, false}
 use mathlib.Core.List.{List}
 use Rattle.record.specs.declared.Order.{Order}
 use Rattle.record.specs.declared.Order.the-variants.{Before, Same, After}
@@ -9,8 +9,6 @@ use Rattle.record.specs.Value.{held}
 use Rattle.record.specs.Ordering.{order}
 use Rattle.nesting.specs.Division.{Record}
 use Rattle.repeats.specs.declared.Sort.{Sort}
-use Rattle.repeats.specs.declared.Sort.the-variants.{Payments}
-use Rattle.repeats.specs.declared.walk.Climbing.{Climbing}
 use Rattle.repeats.specs.Repeats.{numbering, isOf}
 
 -- the first stands after the second
@@ -26,7 +24,3 @@ rises sort r greatest = isOf sort r and isAfter (order (held r (numbering sort))
 -- the greatest number after one record more
 unfoldable pub raised : Sort → Record → List ℕ → List ℕ
 raised sort r greatest = choose (rises sort r greatest) (held r (numbering sort)) greatest
-
--- what one record does to a climb: whether it is a detail whose ID does not stand after the greatest, and the greatest ID after it
-unfoldable pub climbed : Record → List ℕ → Climbing
-climbed r greatest = record { falls = isOf Payments r and not (isAfter (order (held r (numbering Payments)) greatest)); greatest = raised Payments r greatest }

@@ -10,7 +10,8 @@ use Rattle.record.specs.Ordering.{order}
 use Rattle.nesting.specs.Records.{cut, recordAt}
 use Rattle.repeats.specs.declared.Sort.the-variants.{Batches}
 use Rattle.repeats.specs.declared.Numbering.{Numbering}
-use Rattle.repeats.specs.Repeats.{numbering, isOf, numbers, member, Topped}
+use Rattle.tables.specs.Tables.{member}
+use Rattle.repeats.specs.Repeats.{numbering, isOf, numbers, Topped}
 use Rattle.repeats.specs.Places.{isAfter}
 
 -- of each number in turn, after these: 1 where it is an earlier one, 0 where it is new

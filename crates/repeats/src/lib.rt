@@ -1,5 +1,6 @@
 // Numbers that repeat an earlier one (01 Batch reasons, 6).
 mod blocks;
+pub mod climb;
 mod flags;
 mod sieve;
 mod walk;
@@ -72,13 +73,10 @@ pub fn number_batch(
 }
 
 // The first record of the part that repeats an earlier Payment ID in it (01 Batch reasons, 6); the part's first record has the number
-// `first`. IDs that climb take one pass.
+// `first`.
 pub fn first_repeat(part: &[u8], first: usize) -> Repeat
     requires { ⌜ (length (now part) ≤ 65535 * 850) × (first ≤ 65536) ⌝ }
     ensures { λ r. ⌜ r ≡ firstRepeat Payments first [] (cut first (length (now (part .entry)) / 850) (now (part .entry))) ⌝ }
 {
-    if walk::does_climb(part, first) {
-        return Repeat::Nowhere;
-    }
     sieve::first_by_classes(part, first)
 }

@@ -8,9 +8,7 @@ use record::codes::is_header;
 use record::layout::PAYMENT_ID;
 use record::layout::SCHEDULE_NUMBER;
 ghost use mathlib.Core.Path.{_≡_};
-ghost use mathlib.Core.Bool.{true};
-ghost use mathlib.Core.List.{[]};
-ghost use Prim.Native.Nat.{_*_, _/_, _≤_};
+ghost use Prim.Native.Nat.{_*_, _≤_};
 ghost use lib.ListN.{length};
 ghost use Rattle.record.specs.Choice.{_and_};
 ghost use Rattle.record.specs.Value.{Has, seen, held};
@@ -18,16 +16,9 @@ ghost use Rattle.record.specs.Tests.{alike};
 ghost use Rattle.record.specs.Ordering.{order};
 ghost use Rattle.nesting.specs.Records.{cut, recordAt};
 ghost use Rattle.tables.specs.Tables.{Stands};
-ghost use Rattle.repeats.specs.declared.Repeat.the-variants.{Nowhere};
 ghost use Rattle.repeats.specs.declared.Sort.the-variants.{Payments, Batches};
-ghost use Rattle.repeats.specs.Repeats.{numbering, isOf, repeats, firstRepeat};
-ghost use Rattle.repeats.specs.Places.{isAfter, climbed};
-
-// Whether a payment's ID fails to stand after all those before it, and the greatest ID after it.
-pub(crate) struct Climbing {
-    pub(crate) falls: bool,
-    pub(crate) greatest: [u8; 20],
-}
+ghost use Rattle.repeats.specs.Repeats.{numbering, isOf, repeats};
+ghost use Rattle.repeats.specs.Places.{isAfter};
 
 // Where the number stands: 004 fields 23 and 6.
 pub(crate) fn number_field(sort: Sort) -> Field
@@ -98,7 +89,7 @@ pub(crate) fn is_repeated(file: &[u8], first: usize, place: usize, sort: Sort) -
 }
 
 // What the field holds stands after the greatest: the first byte that differs decides.
-fn stands_after(rec: &[u8], line: Line, field: Field, greatest: &[u8]) -> bool
+pub(crate) fn stands_after(rec: &[u8], line: Line, field: Field, greatest: &[u8]) -> bool
     requires { ⌜ Has (now rec) field × (length (now greatest) ≡ field .width) ⌝ }
     ensures { λ r. ⌜ r ≡ isAfter (order (held (seen line (now (rec .entry))) field) (now (greatest .entry))) ⌝ }
 {
@@ -149,16 +140,11 @@ pub(crate) fn schedule_number(file: &[u8], first: usize, place: usize) -> [u8; 1
     copy
 }
 
-// The Payment ID of the record at the place (004 field 23).
-pub(crate) fn payment_id(file: &[u8], first: usize, place: usize) -> [u8; 20]
-    requires { ⌜ Stands first place (now file) ⌝ }
-    ensures { λ r. ⌜ r ≡ held (recordAt first place (now (file .entry))) (numbering Payments) ⌝ }
+// The Payment ID of a record (004 field 23).
+pub(crate) fn id_of(rec: &[u8], line: Line) -> [u8; 20]
+    requires { ⌜ length (now rec) ≡ 850 ⌝ }
+    ensures { λ r. ⌜ r ≡ held (seen line (now (rec .entry))) (numbering Payments) ⌝ }
 {
-    let at = place * 850;
-    let end = at + 850;
-    let rec = &file[at..end];
-    let number = first + place;
-    let line = Line { number };
     let mut copy = [0u8; 20];
     let mut i: usize = 0;
     while i < 20 {
@@ -168,46 +154,13 @@ pub(crate) fn payment_id(file: &[u8], first: usize, place: usize) -> [u8; 20]
     copy
 }
 
-// One record more of a climb.
-fn climb(part: &[u8], first: usize, place: usize, greatest: [u8; 20]) -> Climbing
-    requires { ⌜ Stands first place (now part) ⌝ }
-    ensures { λ r. ⌜ r ≡ climbed (recordAt first place (now (part .entry))) greatest ⌝ }
+// The Payment ID of the record at the place.
+pub(crate) fn payment_id(file: &[u8], first: usize, place: usize) -> [u8; 20]
+    requires { ⌜ Stands first place (now file) ⌝ }
+    ensures { λ r. ⌜ r ≡ held (recordAt first place (now (file .entry))) (numbering Payments) ⌝ }
 {
-    if !is_of(part, first, place, Sort::Payments) {
-        return Climbing {
-            falls: false,
-            greatest,
-        };
-    }
-    if is_after(part, first, place, Sort::Payments, &greatest) {
-        let id = payment_id(part, first, place);
-        return Climbing {
-            falls: false,
-            greatest: id,
-        };
-    }
-    Climbing {
-        falls: true,
-        greatest,
-    }
-}
-
-// Whether each Payment ID stands after all those before it: then none repeats, and one pass has shown it.
-pub(crate) fn does_climb(part: &[u8], first: usize) -> bool
-    requires { ⌜ (length (now part) ≤ 65535 * 850) × (first ≤ 65536) ⌝ }
-    ensures { λ r. ⌜ (r ≡ true → Nowhere ≡ firstRepeat Payments first [] (cut first (length (now (part .entry)) / 850) (now (part .entry)))) ⌝ }
-{
-    let count = part.len() / 850;
-    let mut greatest = [0u8; 20];
-    let mut place: usize = 0;
-    while place < count {
-        let step = climb(part, first, place, greatest);
-        if step.falls {
-            return false;
-        }
-        let raised = step.greatest;
-        greatest = raised;
-        place += 1;
-    }
-    true
+    let at = place * 850;
+    let end = at + 850;
+    let number = first + place;
+    id_of(&file[at..end], Line { number })
 }

@@ -15,7 +15,7 @@ use Rattle.nesting.proofs.OneDivision.{one-division}
 use Rattle.report.specs.Rows.{rowBytes, rowsBytes, rowAt, roomFor, over}
 use Rattle.report.proofs.Rows.{Eights, row-length, rows-snoc, rows-end, head-room, row-room, over-length}
 use Rattle.repeats.specs.declared.Numbering.{Numbering}
-use Rattle.repeats.specs.Repeats.{member}
+use Rattle.tables.specs.Tables.{member}
 use Rattle.repeats.specs.Schedules.{Noted, numbersBefore, numbersFrom, Batched, numbered, flagged}
 use Rattle.repeats.proofs.Looks.{topped-none}
 use Rattle.repeats.proofs.Schedules.{noted-next}

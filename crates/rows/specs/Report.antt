@@ -12,7 +12,7 @@ use Rattle.nesting.specs.Division.{Batch, Division, DivisionOf, batchLines, lin
 use Rattle.nesting.specs.Paid.{paidByAll}
 use Rattle.nesting.specs.Records.{records, Cuttable}
 use Rattle.report.specs.Rows.{rowBytes, rowsBytes, roomFor}
-use Rattle.repeats.specs.Repeats.{member}
+use Rattle.tables.specs.Tables.{member}
 use Rattle.batch.specs.declared.Row.{Row}
 use Rattle.batch.specs.Batch.{rowOf}
 

@@ -4,9 +4,6 @@ use borrow.Author.Needs.{needs}
 use Rattle.batch.proofs.walk.step.Statement.{statement}
 use Rattle.batch.proofs.walk.step.Tie as tie
 
-code-of-requires : tie.Need-code-of-requires
-code-of-requires c κs = search needs
-
 enum-told : tie.Need-enum-told
 enum-told c = search needs
 
@@ -89,7 +86,6 @@ pub step-spec : {M : Type 1} → statement M
 step-spec =
     tie.close
     (tie.spec
-    code-of-requires
     enum-told
     enum-told-2
     enum-told-3

@@ -4,7 +4,7 @@ use lib.ListN.{length}
 use Rattle.record.specs.Fields.{scheduleNumber}
 use Rattle.record.specs.Value.{seen, held}
 use Rattle.repeats.specs.Repeats.{numbering}
-use Rattle.repeats.proofs.Copies.{Copied, copied-none, copied-next, copied-whole}
+use Rattle.repeats.proofs.Copies.{Copied, copied-none, copied-next, copied-whole, copied-there}
 use borrow.Author.Needs.{needs}
 use Rattle.repeats.proofs.walk.schedule_number.Statement.{statement}
 use Rattle.repeats.proofs.walk.schedule_number.Tie as tie
@@ -51,12 +51,13 @@ loop-less c = search needs
 loop-again : tie.Need-loop-again Inv-loop μ-loop
 loop-again c =
     let l = c .before .before .loop in
-    (search needs, search needs, copied-next _ _ _ scheduleNumber (search needs) (l .copy) (l .inv .1) (l .i) (l .inv .2) _ (c .before .loop-test .taken) (c .part-byte .ensures))
+    (search needs, search needs, copied-next _ _ scheduleNumber (search needs) (l .copy) (l .inv .1) (l .i) (l .inv .2) _ (c .before .loop-test .taken) (c .part-byte .ensures))
 
 returns : tie.Need-returns Inv-loop μ-loop
 unfolding numbering
 returns c =
-    let l = c .before .loop in copied-whole _ _ _ scheduleNumber (search needs) (l .copy) (l .inv .1) (l .i) (l .inv .2) (c .loop-test .left)
+    let l = c .before .loop in
+    copied-there _ _ _ scheduleNumber (l .copy) (copied-whole _ _ scheduleNumber (search needs) (l .copy) (l .inv .1) (l .i) (l .inv .2) (c .loop-test .left))
 
 pub schedule-number-spec : {M : Type 1} → statement M
 schedule-number-spec =

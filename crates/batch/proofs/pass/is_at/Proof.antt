@@ -1,7 +1,7 @@
 use Rattle.batch.proofs.Laws.{repeat-at, repeat-nowhere}
 use borrow.Author.Needs.{needs}
-use Rattle.batch.proofs.is_at.Statement.{statement}
-use Rattle.batch.proofs.is_at.Tie as tie
+use Rattle.batch.proofs.pass.is_at.Statement.{statement}
+use Rattle.batch.proofs.pass.is_at.Tie as tie
 
 enum-known-repeat : tie.Need-enum-known-repeat
 enum-known-repeat c = search needs
