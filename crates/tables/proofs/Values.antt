@@ -27,16 +27,6 @@ or-comm true false = refl
 or-comm false true = refl
 or-comm false false = refl
 
-or-left : (a b : Bool) → (a or b) ≡ false → a ≡ false
-unfolding _or_
-or-left true b e = e
-or-left false b e = refl
-
-or-right : (a b : Bool) → (a or b) ≡ false → b ≡ false
-unfolding _or_
-or-right true b e = absurd (true≢false e)
-or-right false b e = e
-
 -- what the test of an order says of each
 pub before-tells : (o : Order) → o ≡ Before → isBefore o ≡ true
 unfolding isBefore
