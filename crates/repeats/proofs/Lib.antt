@@ -5,7 +5,6 @@ mod Walks
 pub mod Looks
 pub mod Climbs
 mod Firsts
-pub mod Schedules
 mod Hashes
 mod Marks
 mod Classes
@@ -13,4 +12,6 @@ mod Passes
 mod Ranges
 mod Visits
 mod Sought
+pub mod Schedules
+mod Flagging
 pub mod Unique

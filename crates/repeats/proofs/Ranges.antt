@@ -33,7 +33,7 @@ cut-join n (suc a) b xs =
     rw (e, cut-join (n + 1) a b (drop 850 xs), drop-drop (a * 850) 850 xs, f, g)
 
 module _ (first : ℕ) (xs : List ℕ) where
-  between-join : (from mid to : ℕ) → from ≤ mid → mid ≤ to → between first from to xs ≡ between first from mid xs ++ between first mid to xs
+  pub between-join : (from mid to : ℕ) → from ≤ mid → mid ≤ to → between first from to xs ≡ between first from mid xs ++ between first mid to xs
   between-join from mid to h l =
       let e : to - from ≡ mid - from + (to - mid) = omega arith in
       let f : first + from + (mid - from) ≡ first + mid = omega arith in
@@ -51,7 +51,7 @@ module _ (first : ℕ) (xs : List ℕ) where
   between-snoc from place h = between-join from place (place + 1) h (omega arith) ∙ rw (between-one place)
 
 -- the numbers of records side by side
-numbers-append : (sort : Sort) (rs qs : List Record) → numbers sort (rs ++ qs) ≡ numbers sort rs ++ numbers sort qs
+pub numbers-append : (sort : Sort) (rs qs : List Record) → numbers sort (rs ++ qs) ≡ numbers sort rs ++ numbers sort qs
 unfolding numbers
 numbers-append sort [] qs = refl
 numbers-append sort (r ∷ rs) qs = rw (numbers-append sort rs qs) (choose-append (isOf sort r) (held r (numbering sort)) (numbers sort rs) _)

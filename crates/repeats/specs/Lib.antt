@@ -4,3 +4,4 @@ pub mod Climb
 pub mod Sieve
 pub mod Blocks
 pub mod Schedules
+pub mod Marking

@@ -15,8 +15,8 @@ ghost use Rattle.repeats.specs.declared.Sort.the-variants.{Payments};
 ghost use Rattle.repeats.specs.Repeats.{numbering, firstRepeat};
 ghost use Rattle.repeats.specs.Blocks.{visited, tableVisited, Blocked};
 
-// The IDs that a block has room for.
-const TABLE: usize = 4096;
+// The numbers that a block has room for.
+pub(crate) const TABLE: usize = 4096;
 
 // What is known after a record of a block: whether the table holds its number, the places in the table, and the first record that found no
 // room.

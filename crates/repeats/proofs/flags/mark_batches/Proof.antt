@@ -1,20 +1,47 @@
+use Prim.Native.Nat.{_-_}
+use Rattle.repeats.specs.Marking.{Marked}
+use Rattle.repeats.proofs.Flagging.{marked-none, marked-length, marked-all}
 use borrow.Author.Needs.{needs}
 use Rattle.repeats.proofs.flags.mark_batches.Statement.{statement}
 use Rattle.repeats.proofs.flags.mark_batches.Tie as tie
-use Rattle.repeats.proofs.flags.mark_batches.Reads as reads
-use Rattle.repeats.proofs.flags.mark_batches.Lts as lts
 
--- src/flags.rt:15:5
-slice-write-flags : tie.Need-slice-write-flags
-slice-write-flags c = ?
+abbrev Inv-loop : tie.InvT-loop
+Inv-loop file start flags₀ records from₀ flags from = Marked file start from flags
 
--- src/flags.rt:11:1
-same-length : tie.Need-same-length
-same-length c = search needs
+abbrev μ-loop : tie.MeasureT-loop
+μ-loop file start flags₀ records from₀ flags from = records - from
 
--- src/flags.rt:11:1
-returns : tie.Need-returns
-returns c = ?
+clear-requires : tie.Need-clear-requires Inv-loop μ-loop
+clear-requires c κs = search needs
+
+loop-holds : tie.Need-loop-holds Inv-loop μ-loop
+loop-holds c = search (needs, marked-none)
+
+mark-block-requires : tie.Need-mark-block-requires Inv-loop μ-loop
+mark-block-requires c κs = search needs
+
+loop-less : tie.Need-loop-less Inv-loop μ-loop
+loop-less c = search needs
+
+loop-again : tie.Need-loop-again Inv-loop μ-loop
+loop-again c = search needs
+
+same-length : tie.Need-same-length Inv-loop μ-loop
+same-length c = search (needs, marked-length)
+
+returns : tie.Need-returns Inv-loop μ-loop
+returns c = search (needs, marked-all)
 
 pub mark-batches-spec : {M : Type 1} → statement M
-mark-batches-spec = tie.close (tie.spec slice-write-flags same-length returns)
+mark-batches-spec =
+    tie.close
+    (tie.spec
+    Inv-loop
+    μ-loop
+    clear-requires
+    loop-holds
+    mark-block-requires
+    loop-less
+    loop-again
+    same-length
+    returns)

@@ -1,0 +1,63 @@
+use Prim.Native.Nat.{_-_}
+use Rattle.repeats.proofs.Flagging.{InMarking, marking-begun, marking-tabled, index-few, marking-stands, flag-fits, marking-next, marking-length, marking-end}
+use borrow.Author.Needs.{needs}
+use Rattle.repeats.proofs.flags.mark_block.Statement.{statement}
+use Rattle.repeats.proofs.flags.mark_block.Tie as tie
+
+abbrev Inv-loop : tie.InvT-loop
+Inv-loop file start from flags₀ records table₀ count₀ next₀ index₀ place₀ flags table count next index place =
+    InMarking file start from place table count next index flags
+
+abbrev μ-loop : tie.MeasureT-loop
+μ-loop file start from flags₀ records table₀ count₀ next₀ index₀ place₀ flags table count next index place = records - place
+
+index-of-requires : tie.Need-index-of-requires Inv-loop μ-loop
+index-of-requires c κs = search needs
+
+loop-holds : tie.Need-loop-holds Inv-loop μ-loop
+loop-holds c = search (needs, marking-begun)
+
+slice-aggregate-visit : tie.Need-slice-aggregate-visit Inv-loop μ-loop
+slice-aggregate-visit c = search needs
+
+visit-requires : tie.Need-visit-requires Inv-loop μ-loop
+visit-requires c κs = search (needs, marking-tabled)
+
+next-index-requires : tie.Need-next-index-requires Inv-loop μ-loop
+next-index-requires c κs = search (needs, index-few, marking-stands)
+
+set-flag-requires : tie.Need-set-flag-requires Inv-loop μ-loop
+set-flag-requires c κs = search (needs, flag-fits)
+
+add-place : tie.Need-add-place Inv-loop μ-loop
+add-place c = search needs
+
+loop-less : tie.Need-loop-less Inv-loop μ-loop
+loop-less c = search needs
+
+loop-again : tie.Need-loop-again Inv-loop μ-loop
+loop-again c = search (needs, marking-next)
+
+same-length : tie.Need-same-length Inv-loop μ-loop
+same-length c = search (needs, marking-length)
+
+returns : tie.Need-returns Inv-loop μ-loop
+returns c = search (needs, marking-end)
+
+pub mark-block-spec : {M : Type 1} → statement M
+mark-block-spec =
+    tie.close
+    (tie.spec
+    Inv-loop
+    μ-loop
+    index-of-requires
+    loop-holds
+    slice-aggregate-visit
+    visit-requires
+    next-index-requires
+    set-flag-requires
+    add-place
+    loop-less
+    loop-again
+    same-length
+    returns)
