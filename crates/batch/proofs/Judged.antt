@@ -5,7 +5,7 @@ use mathlib.Core.Bool.{Bool, false}
 use mathlib.Core.List.{List, [], _∷_, _++_}
 use Prim.Native.Nat.{ℕ, suc, _+_, _*_, _-_, _/_, _≤_}
 use native.Mathlib.Omega.{arith}
-use lib.ListN.{length, take, drop, length-take}
+use lib.ListN.{length, take, drop}
 use lib.Seq.{take-at, length-take-le}
 use Rattle.record.specs.Value.{seen}
 use Rattle.book.specs.Book.{Contents}
@@ -141,9 +141,6 @@ module _ (book : Contents) (repeats : Bool) {n : ℕ} {rest : List ℕ} {w : Wal
 
   pub end-few : w .records * 850 ≤ 65535 * 850
   end-few = omega (arith, end-within, j .few, j .numbered)
-
-  pub part-few : length (partOf rest (w .records)) ≤ 65535 * 850
-  part-few = simp length-take (omega (arith, end-few))
 
   -- it is enough where the Payment IDs climb
   pub climbed-row : {row : Row} → w .climbing .falls ≡ false → row ≡ rowAt (w .state) n (w .records) → IsRow book repeats n rest row
