@@ -46,7 +46,7 @@ fn take_record(
     repeat: Repeat,
 ) -> Walked
     requires { ⌜ Usable (now book) shelves × (length (now rec) ≡ 850) × (code ≡ codeOf (seen line (now rec))) × Room (line .number) (walked .state) × (line .number ≤ 65535) × (walked .records ≤ 65535) ⌝ }
-    ensures { λ r. ⌜ r ≡ taken (listedAt (now (book .entry)) shelves) repeat (line .number) (seen line (now (rec .entry))) walked ⌝ }
+    ensures { λ r. ⌜ r ≡ taken (listedAt (now (book .entry)) shelves) repeat (line .number) walked (seen line (now (rec .entry))) ⌝ }
 {
     let known = walked.state;
     let before = walked.climbing;
