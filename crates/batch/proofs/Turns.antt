@@ -174,10 +174,10 @@ module _ (line : Line) (rec : List ℕ) (l : length rec ≡ 850) where
     room-step code.Unknown repeats h = room-later
 
 -- one record more
-pub took : (book : Contents) (repeat : Repeat) (n : ℕ) (r : Record) (w : Walked) (s : State) (c : Climbing) (marked : Bool) → marked ≡ isAt repeat n
-    → s ≡ stepOf book (codeOf r) (w .state) n r marked → c ≡ climbed r (w .climbing) → record { state = s; climbing = c; records = w .records + 1 } ≡ taken book repeat n w r
+pub took : (book : Contents) (n : ℕ) (r : Record) (w : Walked) (s : State) (c : Climbing) (marked : Bool) → s ≡ stepOf book (codeOf r) (w .state) n r marked
+    → c ≡ climbed r (w .climbing) → record { state = s; climbing = c; records = w .records + 1 } ≡ taken book n w r marked
 unfolding taken
-took book repeat n r w s c marked m e k = rw (e, k, m)
+took book n r w s c marked e k = rw (e, k)
 
 -- what is known after no records, and after a first one
 module _ (book : Contents) (repeat : Repeat) (n : ℕ) (w : Walked) where
@@ -187,10 +187,10 @@ module _ (book : Contents) (repeat : Repeat) (n : ℕ) (w : Walked) where
       let e : w .records + 0 ≡ w .records = omega arith in
       λ i. record { state = w .state; climbing = w .climbing; records = e i }
 
-  over-next : (r : Record) (rs : List Record) → walkedOver book repeat n w (r ∷ rs) ≡ walkedOver book repeat (n + 1) (taken book repeat n w r) rs
+  over-next : (r : Record) (rs : List Record) → walkedOver book repeat n w (r ∷ rs) ≡ walkedOver book repeat (n + 1) (taken book n w r (isAt repeat n)) rs
   unfolding walkedOver taken run climbedBy
   over-next r rs =
-      let t = taken book repeat n w r in
+      let t = taken book n w r (isAt repeat n) in
       let e : w .records + length (r ∷ rs) ≡ w .records + 1 + length rs = omega arith in
       λ i. record { state = run book (isAt repeat) (n + 1) (t .state) rs; climbing = climbedBy rs (t .climbing); records = e i }
 
@@ -257,13 +257,13 @@ module _ {book : Contents} {rest : List ℕ} {first : ℕ} {repeats : Bool} {rep
           rw e (cut-next rest (first + w .records) at (length rest / 850 - (w .records + 1)))
 
       -- it is a BT, or none, by its code
-      module _ {t : Walked} {k : Code} {x : Bool} (e : t ≡ taken book repeat (first + w .records) w here) (o : k ≡ codeOf here) (z : x ≡ isTrailer k) where
+      module _ {t : Walked} {k : Code} {x marked : Bool} (g : marked ≡ isAt repeat (first + w .records)) (e : t ≡ taken book (first + w .records) w here marked) (o : k ≡ codeOf here) (z : x ≡ isTrailer k) where
         pub turned : x ≡ false → Walking book rest first repeats repeat t (at + 850)
         unfolding taken toTrailer choose Roomy
         turned f =
             let m : first + (w .records + 1) ≡ first + w .records + 1 = omega arith in
             let p : isTrailer (codeOf here) ≡ false = ap isTrailer (sym o) ∙ sym z ∙ f in
-            rw e
+            rw (e, g)
             (record {
               judgeable = i .judgeable;
               place = omega (arith, i .place);
@@ -277,7 +277,7 @@ module _ {book : Contents} {rest : List ℕ} {first : ℕ} {repeats : Bool} {rep
         unfolding toTrailer choose
         ended f =
             let p : isTrailer (codeOf here) ≡ true = ap isTrailer (sym o) ∙ sym z ∙ f in
-            sym (i .left ∙ rw (left-next, p, e) (over-next book repeat (first + w .records) w here [] ∙ over-none book repeat _ _))
+            sym (i .left ∙ rw (left-next, p, e, g) (over-next book repeat (first + w .records) w here [] ∙ over-none book repeat _ _))
 
     pub finished : length rest ≤ at → w ≡ walkOf book repeats repeat first rest
     unfolding toTrailer cut

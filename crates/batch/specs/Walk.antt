@@ -233,10 +233,10 @@ module _ (book : Contents) where
   run repeats n s (r ∷ rs) = run repeats (n + 1) (stepOf (codeOf r) s n r (repeats n)) rs
 
   -- what is known after one record more
-  unfoldable pub taken : Repeat → ℕ → Walked → Record → Walked
-  taken repeat n w r =
+  unfoldable pub taken : ℕ → Walked → Record → Bool → Walked
+  taken n w r repeats =
       record {
-        state = stepOf (codeOf r) (w .state) n r (isAt repeat n);
+        state = stepOf (codeOf r) (w .state) n r repeats;
         climbing = climbed r (w .climbing);
         records = w .records + 1;
       }
