@@ -5,7 +5,7 @@ use mathlib.Core.Bool.{Bool, false}
 use mathlib.Core.List.{List, [], _∷_, _++_}
 use Prim.Native.Nat.{ℕ, suc, _+_, _*_, _-_, _/_, _≤_}
 use native.Mathlib.Omega.{arith}
-use lib.ListN.{length, take, drop, length-take}
+use lib.ListN.{length, take, drop}
 use lib.Seq.{take-at, length-take-le}
 use Rattle.record.specs.Value.{seen}
 use Rattle.book.specs.Book.{Contents}
@@ -24,7 +24,7 @@ use Rattle.reasons.specs.Findings.{first}
 use Rattle.batch.specs.declared.Row.{Row}
 use Rattle.batch.specs.declared.pass.Walked.{Walked}
 use Rattle.batch.specs.Batch.{BatchOf, Judgeable, IsRow, rowOf}
-use Rattle.batch.specs.Walk.{isAt, opening, run, noClimb, toTrailer, started, taken, takenBy, walkOf, rowAt}
+use Rattle.batch.specs.Walk.{isAt, opening, run, noClimb, toTrailer, walkedOver, walkOf, rowAt}
 use Rattle.batch.proofs.Marked.{markedFindings}
 use Rattle.batch.proofs.Repeated.{header-none, first-repeat-enough}
 use Rattle.batch.proofs.Adequate.{adequate}
@@ -38,23 +38,6 @@ firstOf x (r ∷ rs) = r
 othersOf : List Record → List Record
 othersOf [] = []
 othersOf (r ∷ rs) = rs
-
--- the parts of what is known after records
-module _ (book : Contents) (repeat : Repeat) where
-  state-by : (n : ℕ) (rs : List Record) (w : Walked) → takenBy book repeat n rs w .state ≡ run book (isAt repeat) n (w .state) rs
-  unfolding takenBy taken run
-  state-by n [] w = refl
-  state-by n (r ∷ rs) w = state-by (n + 1) rs (taken book repeat n r w)
-
-  climbing-by : (n : ℕ) (rs : List Record) (w : Walked) → takenBy book repeat n rs w .climbing ≡ climbedBy rs (w .climbing)
-  unfolding takenBy taken climbedBy
-  climbing-by n [] w = refl
-  climbing-by n (r ∷ rs) w = climbing-by (n + 1) rs (taken book repeat n r w)
-
-  records-by : (n : ℕ) (rs : List Record) (w : Walked) → takenBy book repeat n rs w .records ≡ w .records + length rs
-  unfolding takenBy taken
-  records-by n [] w = omega arith
-  records-by n (r ∷ rs) w = omega (arith, records-by (n + 1) rs (taken book repeat n r w))
 
 -- the bytes of so many records, as the code takes them
 abbrev partOf : List ℕ → ℕ → List ℕ
@@ -81,21 +64,23 @@ module _ (rest : List ℕ) (n : ℕ) (b : Batch) (h : BatchOf n rest b) where
   others-are = ap (λ (rs : List Record). toTrailer (othersOf rs)) (sym lines-are) ∙ to-trailer b (h .legal) (h .more)
 
   module _ (book : Contents) (repeats : Bool) (repeat : Repeat) (w : Walked) (e : w ≡ walkOf book repeats repeat n rest) where
-    walk-is : w ≡ takenBy book repeat (n + 1) others (started book repeats n (b .header))
+    walk-is : w ≡ walkedOver book repeat (n + 1) (record { state = opening book repeats n (b .header); climbing = noClimb; records = 1 }) others
     unfolding walkOf
     walk-is = e ∙ rw (others-are, header-is)
 
     state-is : w .state ≡ run book (isAt repeat) (n + 1) (opening book repeats n (b .header)) others
-    unfolding started
-    state-is = ap (λ (x : Walked). x .state) walk-is ∙ state-by book repeat (n + 1) others (started book repeats n (b .header))
+    unfolding walkedOver
+    state-is = ap (λ (x : Walked). x .state) walk-is
 
     climbing-is : w .climbing ≡ climbedBy others noClimb
-    unfolding started
-    climbing-is = ap (λ (x : Walked). x .climbing) walk-is ∙ climbing-by book repeat (n + 1) others (started book repeats n (b .header))
+    unfolding walkedOver
+    climbing-is = ap (λ (x : Walked). x .climbing) walk-is
 
     size-is : w .records ≡ length (batchLines b)
-    unfolding started
-    size-is = ap (λ (x : Walked). x .records) walk-is ∙ records-by book repeat (n + 1) others (started book repeats n (b .header)) ∙ omega arith
+    unfolding walkedOver
+    size-is =
+        let q : 1 + length others ≡ length (batchLines b) = omega arith in
+        ap (λ (x : Walked). x .records) walk-is ∙ q
 
     -- where the Payment IDs climb, none repeats
     climb-told : w .climbing .falls ≡ false → Nowhere ≡ firstRepeat Payments n [] (batchLines b)
@@ -141,9 +126,6 @@ module _ (book : Contents) (repeats : Bool) {n : ℕ} {rest : List ℕ} {w : Wal
 
   pub end-few : w .records * 850 ≤ 65535 * 850
   end-few = omega (arith, end-within, j .few, j .numbered)
-
-  pub part-few : length (partOf rest (w .records)) ≤ 65535 * 850
-  part-few = simp length-take (omega (arith, end-few))
 
   -- it is enough where the Payment IDs climb
   pub climbed-row : {row : Row} → w .climbing .falls ≡ false → row ≡ rowAt (w .state) n (w .records) → IsRow book repeats n rest row

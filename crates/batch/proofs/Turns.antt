@@ -2,7 +2,7 @@
 -- Assumes nothing.
 use mathlib.Core.Path.{_≡_, refl, sym, ap, _∙_}
 use mathlib.Core.Bool.{Bool, true, false}
-use mathlib.Core.List.{List, _∷_}
+use mathlib.Core.List.{List, [], _∷_}
 use Prim.Native.Nat.{ℕ, suc, _+_, _-_, _*_, _/_, _<_, _≤_}
 use native.Mathlib.Omega.{arith}
 use lib.ListN.{length, take, drop, length-take}
@@ -24,14 +24,14 @@ use Rattle.nesting.specs.Records.{lineOf, cut}
 use Rattle.nesting.proofs.Cuts.{bytesFrom, from-length, recordFrom, cut-next}
 use Rattle.repeats.specs.declared.Repeat.{Repeat}
 use Rattle.repeats.specs.declared.climb.Climbing.{Climbing}
-use Rattle.repeats.specs.Climb.{climbed}
+use Rattle.repeats.specs.Climb.{climbed, climbedBy}
 use Rattle.rules.specs.declared.Context.{Context}
 use Rattle.rules.specs.Rules.{Kept}
 use Rattle.batch.specs.declared.pass.Walked.{Walked}
 use Rattle.batch.specs.declared.payment.Open.{Open}
 use Rattle.batch.specs.declared.walk.State.{State}
 use Rattle.batch.specs.Batch.{Judgeable}
-use Rattle.batch.specs.Walk.{Own, Room, isAt, opened, withAccount, withProcurement, knowing, head, opening, detailed, partied, accounted, procured, trailed, stepOf, noClimb, toTrailer, started, taken, takenBy, walkOf}
+use Rattle.batch.specs.Walk.{Own, Room, isAt, opened, withAccount, withProcurement, knowing, head, opening, detailed, partied, accounted, procured, trailed, stepOf, run, noClimb, toTrailer, taken, walkedOver, walkOf}
 use Rattle.batch.proofs.Trailers.{first-record}
 use Rattle.batch.proofs.Rooms.{small-cents, small-plus, small-later, own-later, serial-below, kept-paying}
 
@@ -174,10 +174,25 @@ module _ (line : Line) (rec : List ℕ) (l : length rec ≡ 850) where
     room-step code.Unknown repeats h = room-later
 
 -- one record more
-pub took : (book : Contents) (repeat : Repeat) (n : ℕ) (r : Record) (w : Walked) (s : State) (c : Climbing) (marked : Bool) → marked ≡ isAt repeat n
-    → s ≡ stepOf book (codeOf r) (w .state) n r marked → c ≡ climbed r (w .climbing) → record { state = s; climbing = c; records = w .records + 1 } ≡ taken book repeat n r w
+pub took : (book : Contents) (n : ℕ) (r : Record) (w : Walked) (s : State) (c : Climbing) (marked : Bool) → s ≡ stepOf book (codeOf r) (w .state) n r marked
+    → c ≡ climbed r (w .climbing) → record { state = s; climbing = c; records = w .records + 1 } ≡ taken book n w r marked
 unfolding taken
-took book repeat n r w s c marked m e k = rw (e, k, m)
+took book n r w s c marked e k = rw (e, k)
+
+-- what is known after no records, and after a first one
+module _ (book : Contents) (repeat : Repeat) (n : ℕ) (w : Walked) where
+  over-none : walkedOver book repeat n w [] ≡ w
+  unfolding walkedOver run climbedBy
+  over-none =
+      let e : w .records + 0 ≡ w .records = omega arith in
+      λ i. record { state = w .state; climbing = w .climbing; records = e i }
+
+  over-next : (r : Record) (rs : List Record) → walkedOver book repeat n w (r ∷ rs) ≡ walkedOver book repeat (n + 1) (taken book n w r (isAt repeat n)) rs
+  unfolding walkedOver taken run climbedBy
+  over-next r rs =
+      let t = taken book n w r (isAt repeat n) in
+      let e : w .records + length (r ∷ rs) ≡ w .records + 1 + length rs = omega arith in
+      λ i. record { state = run book (isAt repeat) (n + 1) (t .state) rs; climbing = climbedBy rs (t .climbing); records = e i }
 
 -- room for the record n, under a name that is shut: the bounds of amounts are too large for the arithmetic of places
 unfoldable pub Roomy : ℕ → State → Type 0
@@ -190,12 +205,12 @@ pub record Walking (book : Contents) (rest : List ℕ) (first : ℕ) (repeats : 
   pub some : 1 ≤ w .records
   pub within : at ≤ length rest
   pub room : Roomy (first + w .records) (w .state)
-  pub left : walkOf book repeats repeat first rest ≡ takenBy book repeat (first + w .records) (toTrailer (cut (first + w .records) (length rest / 850 - w .records) (drop at rest))) w
+  pub left : walkOf book repeats repeat first rest ≡ walkedOver book repeat (first + w .records) w (toTrailer (cut (first + w .records) (length rest / 850 - w .records) (drop at rest)))
 
 module _ {book : Contents} {rest : List ℕ} {first : ℕ} {repeats : Bool} {repeat : Repeat} where
   pub begun : {s : State} → Judgeable first rest → s ≡ opening book repeats first (seen (lineOf first) (take 850 rest))
       → Walking book rest first repeats repeat (record { state = s; climbing = noClimb; records = 1 }) 850
-  unfolding walkOf started Roomy
+  unfolding walkOf Roomy
   begun j e =
       let h = first-record j in
       let l : length (take 850 rest) ≡ 850 = simp length-take (omega arith) in
@@ -242,30 +257,30 @@ module _ {book : Contents} {rest : List ℕ} {first : ℕ} {repeats : Bool} {rep
           rw e (cut-next rest (first + w .records) at (length rest / 850 - (w .records + 1)))
 
       -- it is a BT, or none, by its code
-      module _ {t : Walked} {k : Code} {x : Bool} (e : t ≡ taken book repeat (first + w .records) here w) (o : k ≡ codeOf here) (z : x ≡ isTrailer k) where
+      module _ {t : Walked} {k : Code} {x marked : Bool} (g : marked ≡ isAt repeat (first + w .records)) (e : t ≡ taken book (first + w .records) w here marked) (o : k ≡ codeOf here) (z : x ≡ isTrailer k) where
         pub turned : x ≡ false → Walking book rest first repeats repeat t (at + 850)
-        unfolding taken takenBy toTrailer choose Roomy
+        unfolding taken toTrailer choose Roomy
         turned f =
             let m : first + (w .records + 1) ≡ first + w .records + 1 = omega arith in
             let p : isTrailer (codeOf here) ≡ false = ap isTrailer (sym o) ∙ sym z ∙ f in
-            rw e
+            rw (e, g)
             (record {
               judgeable = i .judgeable;
               place = omega (arith, i .place);
               some = omega arith;
               within = end-within;
               room = rw m (room-step (lineOf (first + w .records)) (bytesFrom rest at) here-length book (first + w .records) (w .state) room-here (codeOf here) _ number-few);
-              left = i .left ∙ rw (left-next, p, m);
+              left = rw m (i .left ∙ rw (left-next, p) (over-next book repeat (first + w .records) w here _));
             })
 
         pub ended : x ≡ true → t ≡ walkOf book repeats repeat first rest
-        unfolding takenBy toTrailer choose
+        unfolding toTrailer choose
         ended f =
             let p : isTrailer (codeOf here) ≡ true = ap isTrailer (sym o) ∙ sym z ∙ f in
-            sym (i .left ∙ rw (left-next, p, e))
+            sym (i .left ∙ rw (left-next, p, e, g) (over-next book repeat (first + w .records) w here [] ∙ over-none book repeat _ _))
 
     pub finished : length rest ≤ at → w ≡ walkOf book repeats repeat first rest
-    unfolding takenBy toTrailer cut
+    unfolding toTrailer cut
     finished h =
         let e : length rest / 850 - w .records ≡ 0 = omega (arith, i .place) in
-        sym (i .left ∙ rw e)
+        sym (i .left ∙ rw e (over-none book repeat _ w))

@@ -22,7 +22,7 @@ use Rattle.nesting.specs.Records.{lineOf, cut}
 use Rattle.repeats.specs.declared.Repeat.{Repeat}
 use Rattle.repeats.specs.declared.Repeat.the-variants.{At, Nowhere}
 use Rattle.repeats.specs.declared.climb.Climbing.{Climbing}
-use Rattle.repeats.specs.Climb.{climbed}
+use Rattle.repeats.specs.Climb.{climbed, climbedBy}
 use Rattle.reasons.specs.declared.Finding.{Finding}
 use Rattle.reasons.specs.Findings.{found, sound, after}
 use Rattle.rules.specs.declared.Codes.{Codes}
@@ -232,27 +232,29 @@ module _ (book : Contents) where
   run repeats n s [] = s
   run repeats n s (r ∷ rs) = run repeats (n + 1) (stepOf (codeOf r) s n r (repeats n)) rs
 
-  -- what is known after the header, and after one record more
-  unfoldable pub started : Bool → ℕ → Record → Walked
-  started repeats n h = record { state = opening repeats n h; climbing = noClimb; records = 1 }
-
-  unfoldable pub taken : Repeat → ℕ → Record → Walked → Walked
-  taken repeat n r w =
+  -- what is known after one record more
+  unfoldable pub taken : ℕ → Walked → Record → Bool → Walked
+  taken n w r repeats =
       record {
-        state = stepOf (codeOf r) (w .state) n r (isAt repeat n);
+        state = stepOf (codeOf r) (w .state) n r repeats;
         climbing = climbed r (w .climbing);
         records = w .records + 1;
       }
 
-  -- after records, the first of which has this number
-  unfoldable pub takenBy : Repeat → ℕ → List Record → Walked → Walked
-  takenBy repeat n [] w = w
-  takenBy repeat n (r ∷ rs) w = takenBy repeat (n + 1) rs (taken repeat n r w)
+  -- and after records, the first of which has this number
+  unfoldable pub walkedOver : Repeat → ℕ → Walked → List Record → Walked
+  walkedOver repeat n w rs =
+      record {
+        state = run (isAt repeat) n (w .state) rs;
+        climbing = climbedBy rs (w .climbing);
+        records = w .records + length rs;
+      }
 
-  -- the walk: the header, and the records behind it up to the first BT
+  -- the walk over what begins with a batch: the header, and the records behind it up to the first BT
   unfoldable pub walkOf : Bool → Repeat → ℕ → List ℕ → Walked
   walkOf repeats repeat n rest =
-      takenBy repeat (n + 1) (toTrailer (cut (n + 1) (length rest / 850 - 1) (drop 850 rest))) (started repeats n (seen (lineOf n) (take 850 rest)))
+      walkedOver repeat (n + 1) (record { state = opening repeats n (seen (lineOf n) (take 850 rest)); climbing = noClimb; records = 1 })
+      (toTrailer (cut (n + 1) (length rest / 850 - 1) (drop 850 rest)))
 
 -- the row at the end of the walk
 unfoldable pub rowAt : State → ℕ → ℕ → Row

@@ -35,7 +35,7 @@ fn is_at(repeat: Repeat, number: usize) -> bool
     }
 }
 
-// One record more, whose code is found already.
+// One record more, whose code is known; its Payment ID is the first that repeats an earlier one, or not.
 fn take_record(
     book: &[u8],
     shelves: Book,
@@ -43,14 +43,13 @@ fn take_record(
     line: Line,
     code: Code,
     walked: Walked,
-    repeat: Repeat,
+    repeated: bool,
 ) -> Walked
     requires { ⌜ Usable (now book) shelves × (length (now rec) ≡ 850) × (code ≡ codeOf (seen line (now rec))) × Room (line .number) (walked .state) × (line .number ≤ 65535) × (walked .records ≤ 65535) ⌝ }
-    ensures { λ r. ⌜ r ≡ taken (listedAt (now (book .entry)) shelves) repeat (line .number) (seen line (now (rec .entry))) walked ⌝ }
+    ensures { λ r. ⌜ r ≡ taken (listedAt (now (book .entry)) shelves) (line .number) walked (seen line (now (rec .entry))) repeated ⌝ }
 {
     let known = walked.state;
     let before = walked.climbing;
-    let repeated = is_at(repeat, line.number);
     let state = walk::step(book, shelves, rec, line, code, known, repeated);
     let climbing = climb(rec, line, code, before);
     let records = walked.records + 1;
@@ -90,8 +89,9 @@ pub(crate) fn walk_batch(
         let end = at + 850;
         let number = first + walked.records;
         let line = Line { number };
+        let repeated = is_at(repeat, number);
         let code = code_of(&rest[at..end], line);
-        walked = take_record(book, shelves, &rest[at..end], line, code, walked, repeat);
+        walked = take_record(book, shelves, &rest[at..end], line, code, walked, repeated);
         if is_trailer(code) {
             return walked;
         }

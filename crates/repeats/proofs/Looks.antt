@@ -46,11 +46,7 @@ module _ (sort : Sort) (first place : ℕ) (xs greatest : List ℕ) (t : Topped 
   unfolding repeats
   after-new e = rw (topped-miss greatest (held (recordAt first place xs) (numbering sort)) _ t e) (and-false (isOf sort (recordAt first place xs)))
 
--- over no numbers, any will do; none stand before the first record
+-- over no numbers, any will do
 pub topped-none : (greatest : List ℕ) → Topped greatest []
 unfolding Topped
 topped-none greatest = tt
-
-pub topped-start : (sort : Sort) (first : ℕ) (xs greatest : List ℕ) → Topped greatest (numbers sort (cut first 0 xs))
-unfolding numbers cut
-topped-start sort first xs greatest = topped-none greatest

@@ -8,7 +8,6 @@ use record::codes::is_header;
 use record::layout::PAYMENT_ID;
 use record::layout::SCHEDULE_NUMBER;
 ghost use mathlib.Core.Path.{_≡_};
-ghost use Prim.Native.Nat.{_*_, _≤_};
 ghost use lib.ListN.{length};
 ghost use Rattle.record.specs.Choice.{_and_};
 ghost use Rattle.record.specs.Value.{Has, seen, held};

@@ -1,4 +1,4 @@
-use Rattle.batch.proofs.Judged.{end-within, end-few, part-few, unrepeated-row, repeated-row}
+use Rattle.batch.proofs.Judged.{end-within, end-few, unrepeated-row, repeated-row}
 use borrow.Author.Needs.{needs}
 use Rattle.batch.proofs.judge_fallen.Statement.{statement}
 use Rattle.batch.proofs.judge_fallen.Tie as tie
@@ -16,7 +16,7 @@ part-first-repeat-end : tie.Need-part-first-repeat-end
 part-first-repeat-end c = let k = end-within _ _ (c .before .before .before .pre .1) (c .before .before .before .pre .2) in search needs
 
 first-repeat-requires : tie.Need-first-repeat-requires
-first-repeat-requires c κs = (part-few _ _ (c .before .before .before .before .pre .1) (c .before .before .before .before .pre .2), search needs)
+first-repeat-requires c κs = let k = end-few _ _ (c .before .before .before .before .pre .1) (c .before .before .before .before .pre .2) in search needs
 
 enum-told : tie.Need-enum-told
 enum-told c = search needs

@@ -3,9 +3,6 @@ use borrow.Author.Needs.{needs}
 use Rattle.batch.proofs.pass.take_record.Statement.{statement}
 use Rattle.batch.proofs.pass.take_record.Tie as tie
 
-is-at-requires : tie.Need-is-at-requires
-is-at-requires c κs = search needs
-
 step-requires : tie.Need-step-requires
 step-requires c κs = search needs
 
@@ -20,4 +17,4 @@ returns c = search (needs, took)
 
 pub take-record-spec : {M : Type 1} → statement M
 take-record-spec =
-    tie.close (tie.spec is-at-requires step-requires climb-requires add-records returns)
+    tie.close (tie.spec step-requires climb-requires add-records returns)

@@ -35,6 +35,9 @@ add-end c = let k = end-few (c .before .loop .inv) (c .loop-test .taken) in sear
 add-number : tie.Need-add-number Inv-loop μ-loop
 add-number c = let k = number-few (c .before .before .loop .inv) (c .before .loop-test .taken) in search needs
 
+is-at-requires : tie.Need-is-at-requires Inv-loop μ-loop
+is-at-requires c κs = search needs
+
 sub-code-of : tie.Need-sub-code-of Inv-loop μ-loop
 sub-code-of c = search needs
 
@@ -42,7 +45,7 @@ part-code-of-start : tie.Need-part-code-of-start Inv-loop μ-loop
 part-code-of-start c = search needs
 
 part-code-of-end : tie.Need-part-code-of-end Inv-loop μ-loop
-part-code-of-end c = let k = end-within (c .before .before .loop .inv) (c .before .loop-test .taken) in search needs
+part-code-of-end c = let k = end-within (c .before .before .before .loop .inv) (c .before .before .loop-test .taken) in search needs
 
 code-of-requires : tie.Need-code-of-requires Inv-loop μ-loop
 code-of-requires c κs = search needs
@@ -54,12 +57,12 @@ part-take-record-start : tie.Need-part-take-record-start Inv-loop μ-loop
 part-take-record-start c = search needs
 
 part-take-record-end : tie.Need-part-take-record-end Inv-loop μ-loop
-part-take-record-end c = let k = end-within (c .before .before .before .before .loop .inv) (c .before .before .before .loop-test .taken) in search needs
+part-take-record-end c = let k = end-within (c .before .before .before .before .before .loop .inv) (c .before .before .before .before .loop-test .taken) in search needs
 
 take-record-requires : tie.Need-take-record-requires Inv-loop μ-loop
 take-record-requires c κs =
-    let l = c .before .before .before .before .before .loop .inv in
-    let h = c .before .before .before .before .loop-test .taken in
+    let l = c .before .before .before .before .before .before .loop .inv in
+    let h = c .before .before .before .before .before .loop-test .taken in
     (search needs, here-length l h, c .before .code-of .ensures, room-here l, number-few l h, records-few l h)
 
 is-trailer-requires : tie.Need-is-trailer-requires Inv-loop μ-loop
@@ -67,14 +70,16 @@ is-trailer-requires c κs = search needs
 
 returns : tie.Need-returns Inv-loop μ-loop
 returns c =
-    ended (c .before .before .before .before .before .before .before .before .loop .inv) (c .before .before .before .before .before .before .before .loop-test .taken) (c .before .before .take-record .ensures) (c .before .before .before .before .code-of .ensures) (c .before .is-trailer .ensures) (c .if1 .taken)
+    ended (c .before .before .before .before .before .before .before .before .before .loop .inv) (c .before .before .before .before .before .before .before .before .loop-test .taken) (c .before .before .before .before .before .before .is-at .ensures) (c .before .before .take-record .ensures) (c .before .before .before .before .code-of .ensures)
+    (c .before .is-trailer .ensures) (c .if1 .taken)
 
 loop-less : tie.Need-loop-less Inv-loop μ-loop
 loop-less c = search needs
 
 loop-again : tie.Need-loop-again Inv-loop μ-loop
 loop-again c =
-    turned (c .before .before .before .before .before .before .before .before .loop .inv) (c .before .before .before .before .before .before .before .loop-test .taken) (c .before .before .take-record .ensures) (c .before .before .before .before .code-of .ensures) (c .before .is-trailer .ensures) (c .if1 .left)
+    turned (c .before .before .before .before .before .before .before .before .before .loop .inv) (c .before .before .before .before .before .before .before .before .loop-test .taken) (c .before .before .before .before .before .before .is-at .ensures) (c .before .before .take-record .ensures) (c .before .before .before .before .code-of .ensures)
+    (c .before .is-trailer .ensures) (c .if1 .left)
 
 returns-2 : tie.Need-returns-2 Inv-loop μ-loop
 returns-2 c = finished (c .before .loop .inv) (c .loop-test .left)
@@ -92,6 +97,7 @@ walk-batch-spec =
     loop-holds
     add-end
     add-number
+    is-at-requires
     sub-code-of
     part-code-of-start
     part-code-of-end
