@@ -1,5 +1,6 @@
 //! The proved judge, the independent judge and a bare scan on the same large files: `bench [RECORDS...]`, default 1,000, 8,000 and 65,535.
-//! Each time is the best of five rounds; in a round every contestant has its turn, so that all see the same machine.
+//! Each time is the best of nine rounds for the files (a) to (f), and of three for those made to be slow; in a round every contestant has its
+//! turn, so that all see the same machine.
 
 use std::collections::BTreeSet;
 use std::hint::black_box;
@@ -11,7 +12,8 @@ use compare::make::record::{add_record, ebcdic, finish, set, set_number, set_tex
 use compare::random::Random;
 use compare::{judge, layout, proved};
 
-const ROUNDS: usize = 5;
+const ROUNDS: usize = 9;
+const HOSTILE_ROUNDS: usize = 3;
 const LOCATIONS: usize = 200_000;
 const SIZES: [usize; 3] = [1_000, 8_000, 65_535];
 const SYMBOL: u128 = 1_234;
@@ -175,6 +177,10 @@ fn ascending(count: usize) -> Vec<u64> {
     (1..=count as u64).collect()
 }
 
+fn descending(count: usize) -> Vec<u64> {
+    (1..=count as u64).rev().collect()
+}
+
 fn shuffled(count: usize) -> Vec<u64> {
     let (random, mut numbers) = (Random::new(1), ascending(count));
     (1..count).for_each(|place| numbers.swap(place, random.index(place + 1)));
@@ -188,11 +194,42 @@ fn shuffled_after_a_repeat(count: usize) -> Vec<u64> {
     numbers
 }
 
+fn equal_but_the_last(count: usize) -> Vec<u64> {
+    let mut numbers = vec![1; count];
+    numbers[count - 1] = 2;
+    numbers
+}
+
+/// A shuffle in which the last number repeats the first.
+fn shuffled_before_a_repeat(count: usize) -> Vec<u64> {
+    let mut numbers = shuffled(count);
+    numbers[count - 1] = numbers[0];
+    numbers
+}
+
+/// A shuffle in which every second number repeats any of the new ones before it.
+fn every_second_repeats(count: usize) -> Vec<u64> {
+    let (random, mut numbers) = (Random::new(2), shuffled(count));
+    (1..count)
+        .step_by(2)
+        .for_each(|place| numbers[place] = numbers[2 * random.index(place / 2 + 1)]);
+    numbers
+}
+
+/// The payments of a file that is one batch of details with a DX each.
+fn payments_of_one(records: usize) -> usize {
+    (records - 4) / 2
+}
+
+fn batches_of_four_in(records: usize) -> usize {
+    (records - 2) / 4
+}
+
 /// One BN batch of details with a DX each.
 fn one_batch(records: usize, ids: &[Id]) -> Vec<u8> {
     let mut file = File::new(records);
     file.open('N', 1, location(5));
-    let payments = file.room() / 2;
+    let payments = payments_of_one(records);
     ids[..payments]
         .iter()
         .enumerate()
@@ -202,7 +239,7 @@ fn one_batch(records: usize, ids: &[Id]) -> Vec<u8> {
 
 fn batches_of_four(records: usize, schedule_numbers: &[u64]) -> Vec<u8> {
     let mut file = File::new(records);
-    let batches = (records - 2) / 4;
+    let batches = batches_of_four_in(records);
     let id = digits(1);
     for (number, schedule_number) in schedule_numbers[..batches].iter().enumerate() {
         file.open(['N', 'W', 'I', 'A'][number % 4], *schedule_number, location(number % 1_000));
@@ -259,29 +296,166 @@ fn batches_of_hundred(records: usize) -> Vec<u8> {
     file.end(&digits(payments as u64 - 1))
 }
 
-/// IDs with one hash: what an attacker who knows the judge's sieve (crates/repeats/src/sieve.rt) would send. A step of that hash takes a word
-/// of the ID: hash % 2^32 * MIX + hash / 2^32 + word. It is undone here from one end value, with the high halves drawn at random.
-fn ids_of_one_hash(count: usize) -> Vec<Id> {
-    const MIX: u64 = 2_654_435_761;
-    let text = |word: u64| word < 1 << 32 && (word as u32).to_le_bytes().iter().all(|&byte| byte >= 0x40);
+/// BN batches of so many payments, the last of what has room. The IDs of a batch differ in their last byte only, and fall.
+fn batches_that_fall(records: usize, payments: u8) -> Vec<u8> {
+    let mut file = File::new(records);
+    let mut id = digits(0);
+    for schedule_number in 1.. {
+        file.open('N', schedule_number, location(5));
+        for number in 0..payments {
+            if file.room() < 2 {
+                break;
+            }
+            id[19] = 0xFF - number;
+            file.pay(&id, 12_345);
+        }
+        if file.room() < 4 {
+            break;
+        }
+        file.close();
+    }
+    file.end(&id)
+}
+
+/// The judge's sieve of Payment IDs (crates/repeats/src/sieve.rt), for those who would choose IDs against it.
+mod sieve {
+    use super::Id;
+
+    pub const MIX: u64 = 2_654_435_761;
+    /// The suspects of a batch that the judge seeks by plain walks.
+    pub const WALKS: usize = 64;
+    pub const SLOTS: usize = 1 << 16;
+
+    pub fn mix(hash: u64, word: u64) -> u64 {
+        hash % (1 << 32) * MIX + (hash >> 32) + word
+    }
+
+    /// What is left to do when the words are in.
+    pub fn stir(hash: u64) -> u64 {
+        mix(mix(hash, 0), 0)
+    }
+
+    pub fn hash(id: &Id) -> u64 {
+        let words = id
+            .chunks(4)
+            .map(|word| word.iter().rev().fold(0, |sum, &byte| sum << 8 | u64::from(byte)));
+        stir(words.fold(0, mix))
+    }
+
+    /// The classes of a batch, each of which has its own pass.
+    pub fn classes(records: usize) -> usize {
+        records / 8_192 + 1
+    }
+
+    pub fn class(hash: u64, classes: usize) -> usize {
+        (hash >> 49) as usize % classes
+    }
+
+    /// The bits that the hash marks in the sieve of its class.
+    pub fn slots(hash: u64) -> [usize; 3] {
+        [0, 16, 32].map(|shift| (hash >> shift) as usize % SLOTS)
+    }
+}
+
+/// A value that a hash may have when the words are in.
+const END: u64 = sieve::MIX * 0x9000_0000 + 0x8000_0000;
+
+/// Such a value whose hash is of the last class, so that the passes for all other classes come first.
+fn end_in_the_last(classes: usize) -> u64 {
+    (END..)
+        .find(|&end| sieve::class(sieve::stir(end), classes) == classes - 1)
+        .expect("a class has one")
+}
+
+fn is_text(word: u64) -> bool {
+    word < 1 << 32 && (word as u32).to_le_bytes().iter().all(|&byte| byte >= 0x40)
+}
+
+/// IDs with one hash, ascending: what an attacker who knows the judge's sieve would send. A step of that hash takes a word of the ID:
+/// hash % 2^32 * MIX + hash / 2^32 + word. It is undone here from one end value, with the high halves drawn at random.
+fn ids_of_one_hash(count: usize, end: u64) -> Vec<Id> {
+    const MIX: u64 = sieve::MIX;
     let random = Random::new(1);
     let mut ids = BTreeSet::new();
     while ids.len() < count {
-        let (mut hash, mut id) = (MIX * 0x9000_0000 + 0x8000_0000, [0; 20]);
+        let (mut hash, mut id) = (end, [0; 20]);
         let found = (0..5).rev().all(|place| {
             let high = if place < 2 { 0 } else { random.below(MIX) };
             let word = if place == 0 { hash } else { hash.wrapping_sub(high) % MIX };
             let low = hash.wrapping_sub(high).wrapping_sub(word) / MIX;
             hash = high << 32 | low;
             id[4 * place..4 * place + 4].copy_from_slice(&(word as u32).to_le_bytes());
-            text(word) && low < 1 << 32
+            is_text(word) && low < 1 << 32
         });
         if found {
             ids.insert(id);
         }
     }
-    let ids: Vec<Id> = ids.into_iter().collect();
-    shuffled(count).iter().map(|place| ids[*place as usize - 1]).collect()
+    ids.into_iter().collect()
+}
+
+fn in_shuffled_order(ids: &[Id]) -> Vec<Id> {
+    shuffled(ids.len()).iter().map(|place| ids[*place as usize - 1]).collect()
+}
+
+fn in_descending_order(mut ids: Vec<Id>) -> Vec<Id> {
+    ids.sort_by(|one, other| other.cmp(one));
+    ids
+}
+
+/// Four bytes of an ID, counted down from FF FF FF FF in order of the bytes; none is below 40.
+fn four_from_the_top() -> impl Iterator<Item = [u8; 4]> {
+    (0..192_u64.pow(4)).map(|number| [3, 2, 1, 0].map(|power| 0xFF - (number / 192_u64.pow(power) % 192) as u8))
+}
+
+/// IDs with one hash that share all the bytes they can. Two words are the same in all, the third is counted down, and the last two are
+/// solved for the end value; one third word in six has a solution, so that 32,000 IDs share nine bytes.
+fn ids_of_one_hash_and_start(count: usize, end: u64) -> Vec<Id> {
+    let mut id = digits(0);
+    let word = |bytes: &[u8]| u64::from(u32::from_le_bytes([bytes[0], bytes[1], bytes[2], bytes[3]]));
+    let start = sieve::mix(word(&id[..4]), word(&id[4..8]));
+    let mut ids = Vec::with_capacity(count);
+    for third in four_from_the_top() {
+        id[8..12].copy_from_slice(&third);
+        // The hash before the last word is `before` + the fourth word, and its low half is `end` / MIX or a little less.
+        let before = sieve::mix(sieve::mix(start, word(&third)), 0);
+        let lows = (0..4).map(|less| end / sieve::MIX - less);
+        for hash in lows.flat_map(|low| [0, 1].map(|carry| ((before >> 32) + carry) << 32 | low)) {
+            let (fourth, fifth) = (hash.wrapping_sub(before), end.wrapping_sub(sieve::mix(hash, 0)));
+            if is_text(fourth) && is_text(fifth) {
+                id[12..16].copy_from_slice(&(fourth as u32).to_le_bytes());
+                id[16..].copy_from_slice(&(fifth as u32).to_le_bytes());
+                ids.push(id);
+            }
+        }
+        if ids.len() >= count {
+            break;
+        }
+    }
+    in_descending_order(ids)
+}
+
+/// Descending IDs that share 16 bytes at least, of which only the last are suspects of the sieve, all of its last class, and one more than
+/// the judge walks for: all passes come first, then as many walks as it makes, each over the whole batch, and then the blocks.
+fn ids_with_late_suspects(count: usize, classes: usize) -> Vec<Id> {
+    let mut id = digits(0);
+    let mut ids = Vec::with_capacity(count);
+    let mut sieves = vec![[false; sieve::SLOTS]; classes];
+    let late = count - sieve::WALKS - 1;
+    for last in four_from_the_top() {
+        if ids.len() == count {
+            break;
+        }
+        id[16..].copy_from_slice(&last);
+        let hash = sieve::hash(&id);
+        let (class, slots) = (sieve::class(hash, classes), sieve::slots(hash));
+        let is_suspect = slots.iter().all(|&slot| sieves[class][slot]);
+        if is_suspect == (ids.len() >= late) && (!is_suspect || class == classes - 1) {
+            slots.iter().for_each(|&slot| sieves[class][slot] = true);
+            ids.push(id);
+        }
+    }
+    ids
 }
 
 fn bare_scan(file: &[u8]) -> u64 {
@@ -294,8 +468,13 @@ fn time(call: impl FnOnce() -> u64) -> (u64, Duration) {
     (answer, start.elapsed())
 }
 
+/// The batches that a report of an accepted file rejects (01 Report).
+fn rejected_in(report: &[u8]) -> usize {
+    report.chunks(64).skip(1).filter(|row| row[40..48] != [0; 8]).count()
+}
+
 /// The best times of the bare scan, the independent judge and the proved one.
-fn measure(name: &str, file: &[u8], book: &[u8], rounds: usize) -> [Duration; 3] {
+fn measure(name: &str, file: &[u8], book: &[u8], rejected: usize, rounds: usize) -> [Duration; 3] {
     let mut reports = [(); 2].map(|()| vec![0; 64 * (1 + file.len() / layout::RECORD / 4)]);
     let [own, theirs] = &mut reports;
     let mut best = [Duration::MAX; 3];
@@ -307,21 +486,26 @@ fn measure(name: &str, file: &[u8], book: &[u8], rounds: usize) -> [Duration; 3]
             eprintln!("{name}: answers {proved_answer} and {answer}, or the reports differ");
             exit(1);
         }
+        if rejected_in(theirs) != rejected {
+            eprintln!("{name}: {} batches are rejected, and {rejected} were to be", rejected_in(theirs));
+            exit(1);
+        }
         best = [best[0].min(scan), best[1].min(independent), best[2].min(proved)];
     }
     best
 }
 
-fn print(name: &str, records: usize, [scan, independent, proved]: [Duration; 3]) {
+fn print(name: &str, records: usize, [scan, independent, proved]: [Duration; 3], proved_a: Duration) {
     let ms = |time: Duration| time.as_secs_f64() * 1e3;
     let ratio = |time: Duration, to: Duration| time.as_secs_f64() / to.as_secs_f64();
     println!(
-        "| {name} | {records} | {:.2} | {:.2} | {:.2} | {:.2} | {:.2} |",
+        "| {name} | {records} | {:.2} | {:.2} | {:.2} | {:.2} | {:.2} | {:.2} |",
         ms(scan),
         ms(independent),
         ms(proved),
         ratio(proved, independent),
-        ratio(proved, scan)
+        ratio(proved, scan),
+        ratio(proved, proved_a)
     );
 }
 
@@ -336,59 +520,126 @@ fn main() {
         }
     };
     let (small, large) = (sound_book(1_000), sound_book(LOCATIONS));
-    println!("| file | records | bare scan, ms | Rust judge, ms | proved judge, ms | proved / Rust | proved / scan |");
-    println!("|---|---|---|---|---|---|---|");
+    println!("| file | records | bare scan, ms | Rust judge, ms | proved judge, ms | proved / Rust | proved / scan | times (a) |");
+    println!("|---|---|---|---|---|---|---|---|");
     for records in sizes {
         let ids = |numbers: Vec<u64>| numbers.into_iter().map(digits).collect::<Vec<_>>();
-        type Case<'a> = (&'a str, &'a dyn Fn() -> Vec<u8>, &'a [u8], usize);
-        let cases: [Case; 9] = [
+        let (payments, batches) = (payments_of_one(records), batches_of_four_in(records));
+        let classes = sieve::classes(records - 2);
+        type Make<'a> = &'a dyn Fn() -> Vec<u8>;
+        let ordinary: [(&str, Make, &[u8]); 6] = [
             (
                 "(a) one batch, IDs ascend",
                 &|| one_batch(records, &ids(ascending(records))),
                 &small,
-                ROUNDS,
             ),
             (
                 "(b) one batch, IDs shuffled",
                 &|| one_batch(records, &ids(shuffled(records))),
                 &small,
-                ROUNDS,
             ),
             (
                 "(c) batches of four records",
                 &|| batches_of_four(records, &ascending(records)),
                 &small,
-                ROUNDS,
             ),
             (
                 "(d) 30 DT and 10 DP a payment, 200,000 locations",
                 &|| many_accounts(records),
                 &large,
-                ROUNDS,
             ),
-            ("(e) check batch, 200,000 locations", &|| checks(records), &large, ROUNDS),
-            ("(f) batches of 100 payments", &|| batches_of_hundred(records), &small, ROUNDS),
+            ("(e) check batch, 200,000 locations", &|| checks(records), &large),
+            ("(f) batches of 100 payments", &|| batches_of_hundred(records), &small),
+        ];
+        // Each with the batches that are rejected.
+        let hostile: [(&str, Make, usize); 16] = [
             (
                 "(c) with schedule numbers shuffled",
                 &|| batches_of_four(records, &shuffled(records)),
-                &small,
-                ROUNDS,
+                0,
             ),
             (
                 "(c) shuffled after a repeat",
                 &|| batches_of_four(records, &shuffled_after_a_repeat(records)),
-                &small,
-                2,
+                1,
+            ),
+            (
+                "(c) with schedule numbers descending",
+                &|| batches_of_four(records, &descending(records)),
+                0,
+            ),
+            (
+                "(c) with schedule numbers equal but the last: all but two batches rejected",
+                &|| batches_of_four(records, &equal_but_the_last(batches)),
+                batches - 2,
+            ),
+            (
+                "(c) shuffled, every second schedule number a repeat: every second batch rejected",
+                &|| batches_of_four(records, &every_second_repeats(records)),
+                batches / 2,
+            ),
+            ("(a) with IDs descending", &|| one_batch(records, &ids(descending(records))), 0),
+            (
+                "(a) with IDs equal but the last: batch rejected",
+                &|| one_batch(records, &ids(equal_but_the_last(payments))),
+                1,
+            ),
+            (
+                "(b) with the first ID again at the end: batch rejected",
+                &|| one_batch(records, &ids(shuffled_before_a_repeat(payments))),
+                1,
+            ),
+            (
+                "(f) of 190 payments, IDs share 19 bytes and descend",
+                &|| batches_that_fall(records, 190),
+                0,
+            ),
+            (
+                "(f) of two payments, IDs share 19 bytes and descend",
+                &|| batches_that_fall(records, 2),
+                0,
             ),
             (
                 "(b) with IDs of one hash",
-                &|| one_batch(records, &ids_of_one_hash(records / 2)),
-                &small,
-                2,
+                &|| one_batch(records, &in_shuffled_order(&ids_of_one_hash(records / 2, END))),
+                0,
+            ),
+            (
+                "(b) with IDs of one hash of the last class",
+                &|| one_batch(records, &in_shuffled_order(&ids_of_one_hash(payments, end_in_the_last(classes)))),
+                0,
+            ),
+            (
+                "(a) with IDs of one hash of the last class, descending",
+                &|| one_batch(records, &in_descending_order(ids_of_one_hash(payments, end_in_the_last(classes)))),
+                0,
+            ),
+            (
+                "(a) with IDs of one hash of the last class, nine bytes shared, descending",
+                &|| one_batch(records, &ids_of_one_hash_and_start(payments, end_in_the_last(classes))),
+                0,
+            ),
+            (
+                "(a) with 65 suspects, all at the end and of the last class, 16 bytes shared, descending",
+                &|| one_batch(records, &ids_with_late_suspects(payments, classes)),
+                0,
+            ),
+            (
+                "(a) with these suspects and the last of them again: batch rejected",
+                &|| {
+                    let mut ids = ids_with_late_suspects(payments - 1, classes);
+                    ids.push(ids[payments - 2]);
+                    one_batch(records, &ids)
+                },
+                1,
             ),
         ];
-        for (name, make, book, rounds) in cases {
-            print(name, records, measure(name, &make(), book, rounds));
+        let ordinary = ordinary.map(|(name, make, book)| (name, make, book, 0, ROUNDS));
+        let hostile = hostile.map(|(name, make, rejected)| (name, make, &small[..], rejected, HOSTILE_ROUNDS));
+        let mut proved_a = None;
+        for (name, make, book, rejected, rounds) in ordinary.into_iter().chain(hostile) {
+            let times = measure(name, &make(), book, rejected, rounds);
+            print(name, records, times, *proved_a.get_or_insert(times[2]));
         }
     }
 }
