@@ -284,3 +284,62 @@ module _ {book : Contents} {rest : List ℕ} {first : ℕ} {repeats : Bool} {rep
     finished h =
         let e : length rest / 850 - w .records ≡ 0 = omega (arith, i .place) in
         sym (i .left ∙ rw e (over-none book repeat _ w))
+
+-- where the walk stops after a record, by its code
+pub stops : (k : Code) (end stop : ℕ) (x : Bool) → x ≡ isTrailer k → x ≡ true → end ≡ choose (isTrailer k) end stop
+unfolding choose
+stops k end stop x e f = rw (← e, f)
+
+pub goes-on : (k : Code) (end stop : ℕ) (x : Bool) → x ≡ isTrailer k → x ≡ false → stop ≡ choose (isTrailer k) end stop
+unfolding choose
+goes-on k end stop x e f = rw (← e, f)
+
+-- the walk goes on while a record is left, or has stopped behind the BT
+pub record Passing (book : Contents) (rest : List ℕ) (first : ℕ) (repeats : Bool) (repeat : Repeat) (w : Walked) (at stop : ℕ) : Type 0 where
+  pub going : at < stop → Walking book rest first repeats repeat w at
+  pub whole : at < stop → stop ≡ length rest
+  pub done : stop ≤ at → w ≡ walkOf book repeats repeat first rest
+
+module _ {book : Contents} {rest : List ℕ} {first : ℕ} {repeats : Bool} {repeat : Repeat} where
+  pub passing-begun : {s : State} → Judgeable first rest → s ≡ opening book repeats first (seen (lineOf first) (take 850 rest))
+      → Passing book rest first repeats repeat (record { state = s; climbing = noClimb; records = 1 }) 850 (length rest)
+  passing-begun j e =
+      let w : Walking book rest first repeats repeat _ 850 = begun j e in
+      record { going = λ h. w; whole = λ h. refl; done = λ h. finished w h }
+
+  module _ {w : Walked} {at stop : ℕ} (p : Passing book rest first repeats repeat w at stop) (h : at < stop) where
+    -- the record at the place
+    pub walking : Walking book rest first repeats repeat w at
+    walking = p .going h
+
+    pub left : at < length rest
+    left = omega (arith, p .whole h)
+
+    module _ (k : Code) {stop' : ℕ} (z : stop' ≡ choose (isTrailer k) (at + 850) stop) where
+      pub passing-less : stop' - (at + 850) < stop - at
+      unfolding choose
+      passing-less = go (isTrailer k) refl
+        where
+          go : (x : Bool) → isTrailer k ≡ x → stop' - (at + 850) < stop - at
+          go true f = let e : stop' ≡ at + 850 = rw f at z in omega arith
+          go false f = let e : stop' ≡ stop = rw f at z in omega arith
+
+      pub passing-next : {s : State} {c : Climbing} {marked : Bool} → marked ≡ isAt repeat (first + w .records) → k ≡ codeOf (recordFrom rest (first + w .records) at)
+          → s ≡ stepOf book (codeOf (recordFrom rest (first + w .records) at)) (w .state) (first + w .records) (recordFrom rest (first + w .records) at) marked
+          → c ≡ climbed (recordFrom rest (first + w .records) at) (w .climbing)
+          → Passing book rest first repeats repeat (record { state = s; climbing = c; records = w .records + 1 }) (at + 850) stop'
+      unfolding choose
+      passing-next {s} {c} {marked} g o e q = go (isTrailer k) refl
+        where
+          go : (x : Bool) → isTrailer k ≡ x → Passing book rest first repeats repeat (record { state = s; climbing = c; records = w .records + 1 }) (at + 850) stop'
+          go true f =
+              let y : stop' ≡ at + 850 = rw f at z in
+              record {
+                going = λ l. absurd (omega arith);
+                whole = λ l. absurd (omega arith);
+                done = λ l. ended walking left g (took book _ _ w s c marked e q) o (sym f) refl;
+              }
+          go false f =
+              let y : stop' ≡ stop = rw f at z in
+              let t = turned walking left g (took book _ _ w s c marked e q) o (sym f) refl in
+              record { going = λ l. t; whole = λ l. y ∙ p .whole h; done = λ l. finished t (omega (arith, p .whole h)) }

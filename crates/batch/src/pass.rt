@@ -10,13 +10,11 @@ use repeats::Repeat;
 use repeats::climb::Climbing;
 use repeats::climb::climb;
 ghost use mathlib.Core.Path.{_≡_};
-ghost use Prim.Native.Nat.{_≤_};
-ghost use lib.ListN.{length};
-ghost use Rattle.record.specs.Value.{seen};
-ghost use Rattle.record.specs.Codes.{codeOf};
+ghost use Rattle.record.specs.Choice.{choose};
+ghost use Rattle.record.specs.Codes.{isTrailer};
 ghost use Rattle.book.specs.Book.{Usable, listedAt};
 ghost use Rattle.batch.specs.Batch.{Judgeable};
-ghost use Rattle.batch.specs.Walk.{Room, isAt, taken, walkOf};
+ghost use Rattle.batch.specs.Walk.{isAt, walkOf};
 
 // What is known after a record: the state, whether the Payment IDs climbed so far, and the count of the records.
 pub(crate) struct Walked {
@@ -35,29 +33,14 @@ fn is_at(repeat: Repeat, number: usize) -> bool
     }
 }
 
-// One record more, whose code is known; its Payment ID is the first that repeats an earlier one, or not.
-fn take_record(
-    book: &[u8],
-    shelves: Book,
-    rec: &[u8],
-    line: Line,
-    code: Code,
-    walked: Walked,
-    repeated: bool,
-) -> Walked
-    requires { ⌜ Usable (now book) shelves × (length (now rec) ≡ 850) × (code ≡ codeOf (seen line (now rec))) × Room (line .number) (walked .state) × (line .number ≤ 65535) × (walked .records ≤ 65535) ⌝ }
-    ensures { λ r. ⌜ r ≡ taken (listedAt (now (book .entry)) shelves) (line .number) walked (seen line (now (rec .entry))) repeated ⌝ }
+// Where the walk stops, after a record that ends there: a BT is the batch's last record (01 Nesting).
+fn stop_after(code: Code, end: usize, stop: usize) -> usize
+    ensures { λ r. ⌜ r ≡ choose (isTrailer code) end stop ⌝ }
 {
-    let known = walked.state;
-    let before = walked.climbing;
-    let state = walk::step(book, shelves, rec, line, code, known, repeated);
-    let climbing = climb(rec, line, code, before);
-    let records = walked.records + 1;
-    Walked {
-        state,
-        climbing,
-        records,
+    if is_trailer(code) {
+        return end;
     }
+    stop
 }
 
 // The walk over the batch that begins the rest of the file, up to its BT; one record is known to repeat an earlier Payment ID, or none.
@@ -73,29 +56,29 @@ pub(crate) fn walk_batch(
     ensures { λ r. ⌜ r ≡ walkOf (listedAt (now (book .entry)) shelves) repeats repeat first (now (rest .entry)) ⌝ }
 {
     let opening = Line { number: first };
-    let state = walk::open_batch(book, shelves, &rest[0..850], opening, repeats);
-    let greatest = [0u8; 20];
-    let climbing = Climbing {
+    let mut state = walk::open_batch(book, shelves, &rest[0..850], opening, repeats);
+    let mut climbing = Climbing {
         falls: false,
-        greatest,
+        greatest: [0u8; 20],
     };
-    let mut walked = Walked {
-        state,
-        climbing,
-        records: 1,
-    };
+    let mut records: usize = 1;
     let mut at: usize = 850;
-    while at < rest.len() {
+    let mut stop = rest.len();
+    while at < stop {
         let end = at + 850;
-        let number = first + walked.records;
+        let number = first + records;
         let line = Line { number };
         let repeated = is_at(repeat, number);
         let code = code_of(&rest[at..end], line);
-        walked = take_record(book, shelves, &rest[at..end], line, code, walked, repeated);
-        if is_trailer(code) {
-            return walked;
-        }
+        state = walk::step(book, shelves, &rest[at..end], line, code, state, repeated);
+        climbing = climb(&rest[at..end], line, code, climbing);
+        records += 1;
+        stop = stop_after(code, end, stop);
         at = end;
     }
-    walked
+    Walked {
+        state,
+        climbing,
+        records,
+    }
 }

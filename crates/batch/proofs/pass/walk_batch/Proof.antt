@@ -1,18 +1,17 @@
 use Prim.Native.Nat.{_-_}
-use lib.ListN.{length}
 use Rattle.book.specs.Book.{listedAt}
 use Rattle.batch.proofs.Trailers.{first-record}
-use Rattle.batch.proofs.Turns.{Walking, begun, room-here, end-within, end-few, number-few, records-few, here-length, turned, ended, finished}
+use Rattle.batch.proofs.Turns.{Passing, passing-begun, walking, left, room-here, end-within, end-few, number-few, records-few, here-length, passing-less, passing-next}
 use borrow.Author.Needs.{needs}
 use Rattle.batch.proofs.pass.walk_batch.Statement.{statement}
 use Rattle.batch.proofs.pass.walk_batch.Tie as tie
 
 abbrev Inv-loop : tie.InvT-loop
-Inv-loop book shelves rest first repeats repeat walked₀ at₀ walked at =
-    Walking (listedAt book shelves) rest first repeats repeat walked at
+Inv-loop book shelves rest first repeats repeat state₀ climbing₀ records₀ at₀ stop₀ state climbing records at stop =
+    Passing (listedAt book shelves) rest first repeats repeat (record { state = state; climbing = climbing; records = records }) at stop
 
 abbrev μ-loop : tie.MeasureT-loop
-μ-loop book shelves rest first repeats repeat walked₀ at₀ walked at = length rest - at
+μ-loop book shelves rest first repeats repeat state₀ climbing₀ records₀ at₀ stop₀ state climbing records at stop = stop - at
 
 sub-open-batch : tie.Need-sub-open-batch Inv-loop μ-loop
 sub-open-batch c = search needs
@@ -27,13 +26,13 @@ open-batch-requires : tie.Need-open-batch-requires Inv-loop μ-loop
 open-batch-requires c κs = search needs
 
 loop-holds : tie.Need-loop-holds Inv-loop μ-loop
-loop-holds c = begun (c .before .before .before .before .pre .1) (c .open-batch .ensures)
+loop-holds c = passing-begun (c .before .before .before .before .pre .1) (c .open-batch .ensures)
 
 add-end : tie.Need-add-end Inv-loop μ-loop
-add-end c = let k = end-few (c .before .loop .inv) (c .loop-test .taken) in search needs
+add-end c = let k = end-few (walking (c .before .loop .inv) (c .loop-test .taken)) (left (c .before .loop .inv) (c .loop-test .taken)) in search needs
 
 add-number : tie.Need-add-number Inv-loop μ-loop
-add-number c = let k = number-few (c .before .before .loop .inv) (c .before .loop-test .taken) in search needs
+add-number c = let k = number-few (walking (c .before .loop .inv) (c .loop-test .taken)) (left (c .before .loop .inv) (c .loop-test .taken)) in search needs
 
 is-at-requires : tie.Need-is-at-requires Inv-loop μ-loop
 is-at-requires c κs = search needs
@@ -45,44 +44,54 @@ part-code-of-start : tie.Need-part-code-of-start Inv-loop μ-loop
 part-code-of-start c = search needs
 
 part-code-of-end : tie.Need-part-code-of-end Inv-loop μ-loop
-part-code-of-end c = let k = end-within (c .before .before .before .loop .inv) (c .before .before .loop-test .taken) in search needs
+part-code-of-end c = let k = end-within (walking (c .before .before .loop .inv) (c .before .loop-test .taken)) (left (c .before .before .loop .inv) (c .before .loop-test .taken)) in search needs
 
 code-of-requires : tie.Need-code-of-requires Inv-loop μ-loop
 code-of-requires c κs = search needs
 
-sub-take-record : tie.Need-sub-take-record Inv-loop μ-loop
-sub-take-record c = search needs
+sub-step : tie.Need-sub-step Inv-loop μ-loop
+sub-step c = search needs
 
-part-take-record-start : tie.Need-part-take-record-start Inv-loop μ-loop
-part-take-record-start c = search needs
+part-step-start : tie.Need-part-step-start Inv-loop μ-loop
+part-step-start c = search needs
 
-part-take-record-end : tie.Need-part-take-record-end Inv-loop μ-loop
-part-take-record-end c = let k = end-within (c .before .before .before .before .before .loop .inv) (c .before .before .before .before .loop-test .taken) in search needs
+part-step-end : tie.Need-part-step-end Inv-loop μ-loop
+part-step-end c = let k = end-within (walking (c .before .before .before .before .loop .inv) (c .before .before .before .loop-test .taken)) (left (c .before .before .before .before .loop .inv) (c .before .before .before .loop-test .taken)) in search needs
 
-take-record-requires : tie.Need-take-record-requires Inv-loop μ-loop
-take-record-requires c κs =
-    let l = c .before .before .before .before .before .before .loop .inv in
-    let h = c .before .before .before .before .before .loop-test .taken in
-    (search needs, here-length l h, c .before .code-of .ensures, room-here l, number-few l h, records-few l h)
+step-requires : tie.Need-step-requires Inv-loop μ-loop
+step-requires c κs =
+    let l = walking (c .before .before .before .before .before .loop .inv) (c .before .before .before .before .loop-test .taken) in
+    let h = left (c .before .before .before .before .before .loop .inv) (c .before .before .before .before .loop-test .taken) in
+    (search needs, here-length l h, c .before .code-of .ensures, room-here l, number-few l h)
 
-is-trailer-requires : tie.Need-is-trailer-requires Inv-loop μ-loop
-is-trailer-requires c κs = search needs
+sub-climb : tie.Need-sub-climb Inv-loop μ-loop
+sub-climb c = search needs
 
-returns : tie.Need-returns Inv-loop μ-loop
-returns c =
-    ended (c .before .before .before .before .before .before .before .before .before .loop .inv) (c .before .before .before .before .before .before .before .before .loop-test .taken) (c .before .before .before .before .before .before .is-at .ensures) (c .before .before .take-record .ensures) (c .before .before .before .before .code-of .ensures)
-    (c .before .is-trailer .ensures) (c .if1 .taken)
+part-climb-start : tie.Need-part-climb-start Inv-loop μ-loop
+part-climb-start c = search needs
+
+part-climb-end : tie.Need-part-climb-end Inv-loop μ-loop
+part-climb-end c = let k = end-within (walking (c .before .before .before .before .before .before .loop .inv) (c .before .before .before .before .before .loop-test .taken)) (left (c .before .before .before .before .before .before .loop .inv) (c .before .before .before .before .before .loop-test .taken)) in search needs
+
+climb-requires : tie.Need-climb-requires Inv-loop μ-loop
+climb-requires c κs = (here-length (walking (c .before .before .before .before .before .before .before .loop .inv) (c .before .before .before .before .before .before .loop-test .taken)) (left (c .before .before .before .before .before .before .before .loop .inv) (c .before .before .before .before .before .before .loop-test .taken)), c .before .before .before .code-of .ensures)
+
+add-records : tie.Need-add-records Inv-loop μ-loop
+add-records c = let k = records-few (walking (c .before .before .before .before .before .before .before .before .loop .inv) (c .before .before .before .before .before .before .before .loop-test .taken)) (left (c .before .before .before .before .before .before .before .before .loop .inv) (c .before .before .before .before .before .before .before .loop-test .taken)) in search needs
+
+stop-after-requires : tie.Need-stop-after-requires Inv-loop μ-loop
+stop-after-requires c κs = search needs
 
 loop-less : tie.Need-loop-less Inv-loop μ-loop
-loop-less c = search needs
+loop-less c = passing-less (c .before .before .before .before .before .before .before .before .before .loop .inv) (c .before .before .before .before .before .before .before .before .loop-test .taken) _ (c .stop-after .ensures)
 
 loop-again : tie.Need-loop-again Inv-loop μ-loop
 loop-again c =
-    turned (c .before .before .before .before .before .before .before .before .before .loop .inv) (c .before .before .before .before .before .before .before .before .loop-test .taken) (c .before .before .before .before .before .before .is-at .ensures) (c .before .before .take-record .ensures) (c .before .before .before .before .code-of .ensures)
-    (c .before .is-trailer .ensures) (c .if1 .left)
+    passing-next (c .before .before .before .before .before .before .before .before .before .loop .inv) (c .before .before .before .before .before .before .before .before .loop-test .taken) _ (c .stop-after .ensures) (c .before .before .before .before .before .before .before .is-at .ensures) (c .before .before .before .before .before .code-of .ensures) (c .before .before .before .step .ensures)
+    (c .before .climb .ensures)
 
-returns-2 : tie.Need-returns-2 Inv-loop μ-loop
-returns-2 c = finished (c .before .loop .inv) (c .loop-test .left)
+returns : tie.Need-returns Inv-loop μ-loop
+returns c = c .before .loop .inv .done (c .loop-test .left)
 
 pub walk-batch-spec : {M : Type 1} → statement M
 walk-batch-spec =
@@ -102,12 +111,16 @@ walk-batch-spec =
     part-code-of-start
     part-code-of-end
     code-of-requires
-    sub-take-record
-    part-take-record-start
-    part-take-record-end
-    take-record-requires
-    is-trailer-requires
-    returns
+    sub-step
+    part-step-start
+    part-step-end
+    step-requires
+    sub-climb
+    part-climb-start
+    part-climb-end
+    climb-requires
+    add-records
+    stop-after-requires
     loop-less
     loop-again
-    returns-2)
+    returns)
