@@ -14,7 +14,7 @@ use lib.ListN.{length, getD, set, length-set}
 use lib.Seq.{getD-set-same, getD-set-other}
 use Rattle.record.specs.Choice.{_and_}
 use Rattle.record.proofs.Chain.{and-left, and-right}
-use Rattle.repeats.specs.Sieve.{marked, isMarked, lowSlot, middleSlot, highSlot, hasMarks, withMarks}
+use Rattle.repeats.specs.Sieve.{marked, isMarked, lowSlot, middleSlot, highSlot, betweenSlot, hasMarks, withMarks}
 
 -- the mask of a slot, as the code makes it
 mask-small : (slot : ℕ) → 2 ^ (slot % 64) < 18446744073709551616
@@ -61,15 +61,18 @@ same-or-not i j = go (eqb j i) refl
     go true e = inl (eqb-true j i e)
     go false e = inr (λ q. true≢false (sym (eq-eqb j i q) ∙ e))
 
--- one mark
-module _ (sieve : List ℕ) (slot : ℕ) (h : slot / 64 < length sieve) where
+-- one mark in a sieve of 1,024 words
+module _ (sieve : List ℕ) (n : length sieve ≡ 1024) (slot : ℕ) (s : slot < 65536) where
+  within : slot / 64 < length sieve
+  within = omega arith
+
   mark-own : isMarked (marked sieve slot) slot ≡ true
   unfolding isMarked marked
   mark-own =
       let w = getD sieve (slot / 64) 0 in
       let m : bitOr w (2 ^ (slot % 64)) / 2 ^ (slot % 64) % 2 ≡ 1 =
       bit-or w (2 ^ (slot % 64)) (slot % 64) ∙ max-right _ _ (bit-small (w / 2 ^ (slot % 64))) (own-bit (slot % 64)) in
-      let g : getD (set sieve (slot / 64) (bitOr w (2 ^ (slot % 64)))) (slot / 64) 0 ≡ bitOr w (2 ^ (slot % 64)) = getD-set-same sieve (slot / 64) (bitOr w (2 ^ (slot % 64))) 0 h in
+      let g : getD (set sieve (slot / 64) (bitOr w (2 ^ (slot % 64)))) (slot / 64) 0 ≡ bitOr w (2 ^ (slot % 64)) = getD-set-same sieve (slot / 64) (bitOr w (2 ^ (slot % 64))) 0 within in
       eq-eqb _ 1 (ap (λ (x : ℕ). x / 2 ^ (slot % 64) % 2) g ∙ m)
 
   mark-keeps : (other : ℕ) → isMarked sieve other ≡ true → isMarked (marked sieve slot) other ≡ true
@@ -89,17 +92,17 @@ module _ (sieve : List ℕ) (slot : ℕ) (h : slot / 64 < length sieve) where
       same q =
           let b : getD sieve (slot / 64) 0 / 2 ^ (other % 64) % 2 ≡ 1 = rw (← q) bit in
           let m : v / 2 ^ (other % 64) % 2 ≡ 1 = bit-or w (2 ^ (slot % 64)) (other % 64) ∙ max-left _ _ b (bit-small (2 ^ (slot % 64) / 2 ^ (other % 64))) in
-          let g : getD (set sieve (slot / 64) v) (other / 64) 0 ≡ v = ap (λ (j : ℕ). getD (set sieve (slot / 64) v) j 0) q ∙ getD-set-same sieve (slot / 64) v 0 h in
+          let g : getD (set sieve (slot / 64) v) (other / 64) 0 ≡ v = ap (λ (j : ℕ). getD (set sieve (slot / 64) v) j 0) q ∙ getD-set-same sieve (slot / 64) v 0 within in
           eq-eqb _ 1 (ap (λ (x : ℕ). x / 2 ^ (other % 64) % 2) g ∙ m)
 
       apart : (other / 64 ≡ slot / 64 → ⊥) → eqb (getD (set sieve (slot / 64) v) (other / 64) 0 / 2 ^ (other % 64) % 2) 1 ≡ true
-      apart n = eq-eqb _ 1 (ap (λ (x : ℕ). x / 2 ^ (other % 64) % 2) (getD-set-other sieve (slot / 64) (other / 64) v 0 n) ∙ bit)
+      apart d = eq-eqb _ 1 (ap (λ (x : ℕ). x / 2 ^ (other % 64) % 2) (getD-set-other sieve (slot / 64) (other / 64) v 0 d) ∙ bit)
 
-mark-length : (sieve : List ℕ) (slot : ℕ) → length (marked sieve slot) ≡ length sieve
+mark-length : (sieve : List ℕ) (slot : ℕ) → length sieve ≡ 1024 → length (marked sieve slot) ≡ 1024
 unfolding marked
-mark-length sieve slot = length-set sieve (slot / 64) _
+mark-length sieve slot n = length-set sieve (slot / 64) _ ∙ n
 
--- the three marks of a hash, as the code tests and sets them
+-- the four marks of a hash, as the code tests and sets them
 module _ (sieve : List ℕ) (hash : ℕ) where
   pub marks-low : isMarked sieve (lowSlot hash) ≡ false → false ≡ hasMarks sieve hash
   unfolding hasMarks _and_
@@ -109,56 +112,79 @@ module _ (sieve : List ℕ) (hash : ℕ) where
   unfolding hasMarks _and_
   marks-middle e f = sym (rw (e, f))
 
-  pub marks-high : (r : Bool) → isMarked sieve (lowSlot hash) ≡ true → isMarked sieve (middleSlot hash) ≡ true → r ≡ isMarked sieve (highSlot hash) → r ≡ hasMarks sieve hash
+  pub marks-high : isMarked sieve (lowSlot hash) ≡ true → isMarked sieve (middleSlot hash) ≡ true → isMarked sieve (highSlot hash) ≡ false → false ≡ hasMarks sieve hash
   unfolding hasMarks _and_
-  marks-high r e f g = sym (rw (e, f) (sym g))
+  marks-high e f g = sym (rw (e, f, g))
 
-  pub marks-given : (a b c : List ℕ) → a ≡ marked sieve (lowSlot hash) → b ≡ marked a (middleSlot hash) → c ≡ marked b (highSlot hash) → c ≡ withMarks sieve hash
+  pub marks-between : (r : Bool) → isMarked sieve (lowSlot hash) ≡ true → isMarked sieve (middleSlot hash) ≡ true → isMarked sieve (highSlot hash) ≡ true
+      → r ≡ isMarked sieve (betweenSlot hash) → r ≡ hasMarks sieve hash
+  unfolding hasMarks _and_
+  marks-between r e f g h = sym (rw (e, f, g) (sym h))
+
+  pub marks-given : (a b c d : List ℕ) → a ≡ marked sieve (lowSlot hash) → b ≡ marked a (middleSlot hash) → c ≡ marked b (highSlot hash) → d ≡ marked c (betweenSlot hash)
+      → d ≡ withMarks sieve hash
   unfolding withMarks
-  marks-given a b c p q r = r ∙ rw (q, p)
+  marks-given a b c d p q r s = s ∙ rw (r, q, p)
 
--- what has its marks keeps them
-slots : (hash n : ℕ) → n ≡ 1024 → (lowSlot hash / 64 < n) × (middleSlot hash / 64 < n) × (highSlot hash / 64 < n)
-slots hash n e = (omega arith, omega arith, omega arith)
-
-all-three : (a b c : Bool) → a ≡ true → b ≡ true → c ≡ true → (a and b and c) ≡ true
+all-four : (a b c d : Bool) → a ≡ true → b ≡ true → c ≡ true → d ≡ true → (a and b and c and d) ≡ true
 unfolding _and_
-all-three a b c p q r = rw (p, q, r)
+all-four a b c d p q r s = rw (p, q, r, s)
 
+-- the sieve from mark to mark: what is marked stays
 module _ (sieve : List ℕ) (n : length sieve ≡ 1024) (hash : ℕ) where
-  one-length : length (marked sieve (lowSlot hash)) ≡ 1024
-  one-length = mark-length sieve (lowSlot hash) ∙ n
+  abbrev withLow : List ℕ
+  withLow = marked sieve (lowSlot hash)
 
-  two-length : length (marked (marked sieve (lowSlot hash)) (middleSlot hash)) ≡ 1024
-  two-length = mark-length _ (middleSlot hash) ∙ one-length
+  abbrev withMiddle : List ℕ
+  withMiddle = marked withLow (middleSlot hash)
+
+  abbrev withHigh : List ℕ
+  withHigh = marked withMiddle (highSlot hash)
+
+  low-length : length withLow ≡ 1024
+  low-length = mark-length sieve (lowSlot hash) n
+
+  middle-length : length withMiddle ≡ 1024
+  middle-length = mark-length withLow (middleSlot hash) low-length
+
+  high-length : length withHigh ≡ 1024
+  high-length = mark-length withMiddle (highSlot hash) middle-length
 
   pub marks-length : length (withMarks sieve hash) ≡ 1024
   unfolding withMarks
-  marks-length = mark-length _ (highSlot hash) ∙ two-length
+  marks-length = mark-length withHigh (betweenSlot hash) high-length
 
-  stays-one : (slot : ℕ) → isMarked sieve slot ≡ true → isMarked (marked sieve (lowSlot hash)) slot ≡ true
-  stays-one slot e = mark-keeps sieve (lowSlot hash) (rw n (slots hash 1024 refl .0)) slot e
+  -- what is marked at a step is marked at the end
+  module _ (slot : ℕ) where
+    after-high : isMarked withHigh slot ≡ true → isMarked (withMarks sieve hash) slot ≡ true
+    unfolding withMarks
+    after-high e = mark-keeps withHigh high-length (betweenSlot hash) (omega arith) slot e
 
-  stays-two : (slot : ℕ) → isMarked (marked sieve (lowSlot hash)) slot ≡ true → isMarked (marked (marked sieve (lowSlot hash)) (middleSlot hash)) slot ≡ true
-  stays-two slot e = mark-keeps _ (middleSlot hash) (rw one-length (slots hash 1024 refl .1)) slot e
+    after-middle : isMarked withMiddle slot ≡ true → isMarked (withMarks sieve hash) slot ≡ true
+    after-middle e = after-high (mark-keeps withMiddle middle-length (highSlot hash) (omega arith) slot e)
 
-  stays-three : (slot : ℕ) → isMarked (marked (marked sieve (lowSlot hash)) (middleSlot hash)) slot ≡ true → isMarked (withMarks sieve hash) slot ≡ true
-  unfolding withMarks
-  stays-three slot e = mark-keeps _ (highSlot hash) (rw two-length (slots hash 1024 refl .2)) slot e
+    after-low : isMarked withLow slot ≡ true → isMarked (withMarks sieve hash) slot ≡ true
+    after-low e = after-middle (mark-keeps withLow low-length (middleSlot hash) (omega arith) slot e)
 
-  stays : (slot : ℕ) → isMarked sieve slot ≡ true → isMarked (withMarks sieve hash) slot ≡ true
-  stays slot e = stays-three slot (stays-two slot (stays-one slot e))
+    stays : isMarked sieve slot ≡ true → isMarked (withMarks sieve hash) slot ≡ true
+    stays e = after-low (mark-keeps sieve n (lowSlot hash) (omega arith) slot e)
 
   pub marks-keep : (other : ℕ) → hasMarks sieve other ≡ true → hasMarks (withMarks sieve hash) other ≡ true
   unfolding hasMarks
   marks-keep other e =
       let f = and-right _ _ e in
-      all-three _ _ _ (stays (lowSlot other) (and-left _ _ e)) (stays (middleSlot other) (and-left _ _ f)) (stays (highSlot other) (and-right _ _ f))
+      let g = and-right _ _ f in
+      all-four _ _ _ _
+      (stays (lowSlot other) (and-left _ _ e))
+      (stays (middleSlot other) (and-left _ _ f))
+      (stays (highSlot other) (and-left _ _ g))
+      (stays (betweenSlot other) (and-right _ _ g))
 
   pub marks-own : hasMarks (withMarks sieve hash) hash ≡ true
   unfolding hasMarks withMarks
   marks-own =
-      all-three _ _ _
-      (stays-three (lowSlot hash) (stays-two (lowSlot hash) (mark-own sieve (lowSlot hash) (rw n (slots hash 1024 refl .0)))))
-      (stays-three (middleSlot hash) (mark-own _ (middleSlot hash) (rw one-length (slots hash 1024 refl .1))))
-      (mark-own _ (highSlot hash) (rw two-length (slots hash 1024 refl .2)))
+      all-four _ _ _ _
+      (after-low (lowSlot hash) (mark-own sieve n (lowSlot hash) (omega arith)))
+      (after-middle (middleSlot hash) (mark-own withLow low-length (middleSlot hash) (omega arith)))
+      (after-high (highSlot hash) (mark-own withMiddle middle-length (highSlot hash) (omega arith)))
+      (mark-own withHigh high-length (betweenSlot hash) (omega arith))

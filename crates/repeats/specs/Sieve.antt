@@ -42,7 +42,7 @@ marked sieve slot = set sieve (slot / 64) (bitOr (getD sieve (slot / 64) 0) (2 ^
 unfoldable pub isMarked : List ℕ → ℕ → Bool
 isMarked sieve slot = eqb (getD sieve (slot / 64) 0 / 2 ^ (slot % 64) % 2) 1
 
--- the three slots of a hash
+-- the four slots of a hash
 abbrev pub lowSlot : ℕ → ℕ
 lowSlot hash = hash % 65536
 
@@ -52,13 +52,17 @@ middleSlot hash = hash / 65536 % 65536
 abbrev pub highSlot : ℕ → ℕ
 highSlot hash = hash / 4294967296 % 65536
 
--- the hash has its three marks
-unfoldable pub hasMarks : List ℕ → ℕ → Bool
-hasMarks sieve hash = isMarked sieve (lowSlot hash) and isMarked sieve (middleSlot hash) and isMarked sieve (highSlot hash)
+-- bits of the low and the middle slot: another place in the sieve, and no more hashing
+abbrev pub betweenSlot : ℕ → ℕ
+betweenSlot hash = hash / 256 % 65536
 
--- the sieve with the three marks of a hash
+-- the hash has its four marks
+unfoldable pub hasMarks : List ℕ → ℕ → Bool
+hasMarks sieve hash = isMarked sieve (lowSlot hash) and isMarked sieve (middleSlot hash) and isMarked sieve (highSlot hash) and isMarked sieve (betweenSlot hash)
+
+-- the sieve with the four marks of a hash
 unfoldable pub withMarks : List ℕ → ℕ → List ℕ
-withMarks sieve hash = marked (marked (marked sieve (lowSlot hash)) (middleSlot hash)) (highSlot hash)
+withMarks sieve hash = marked (marked (marked (marked sieve (lowSlot hash)) (middleSlot hash)) (highSlot hash)) (betweenSlot hash)
 
 -- the class of an ID, by the bits of its hash that choose no slot
 unfoldable pub classOf : ℕ → List ℕ → ℕ
@@ -88,8 +92,8 @@ repeatsIn classes class first bytes place =
 
 -- a trial of that record: it is told while the suspects are in the budget, and a pass that goes on is in it
 pub record Tried (classes class first : ℕ) (bytes : List ℕ) (place : ℕ) (stops : Bool) (walks : ℕ) : Type 0 where
-  pub answer : walks ≤ 64 → stops ≡ repeatsIn classes class first bytes place
-  pub budget : stops ≡ false → walks ≤ 64
+  pub answer : walks ≤ 40 → stops ≡ repeatsIn classes class first bytes place
+  pub budget : stops ≡ false → walks ≤ 40
 
 -- the first such place before the best, or the best
 pub record Passed (classes class first : ℕ) (bytes : List ℕ) (best place : ℕ) : Type 0 where

@@ -1,5 +1,5 @@
 // The first repeat of a Payment ID where the IDs do not climb: passes over classes of a hash, each with a sieve of 65,536 bits on the
-// stack. The plain walk is made only where all three marks of an ID are set, so that a batch of many payments costs a few passes; the
+// stack. The plain walk is made only where all four marks of an ID are set, so that a batch of many payments costs a few passes; the
 // walks have a budget, so that no choice of IDs makes it cost more.
 use crate::Repeat;
 use crate::Sort;
@@ -19,7 +19,7 @@ ghost use Rattle.repeats.specs.Repeats.{firstRepeat};
 ghost use Rattle.repeats.specs.Sieve.{wordOf, mixed, hashOf, marked, isMarked, hasMarks, withMarks, isSuspect, sifted, AllMarked, Tried, Passed};
 
 // The suspects of a batch that are walked: past them, blocks decide.
-const WALKS: usize = 64;
+const WALKS: usize = 40;
 
 // Whether a pass stops at a record, and the suspects counted after it.
 struct Trial {
@@ -82,7 +82,7 @@ fn mark(sieve: &mut [u64; 1024], slot: usize)
     sieve[at] = sieve[at] | (1u64 << bit);
 }
 
-// The hash has its three marks.
+// The hash has its four marks.
 fn has_marks(sieve: &[u64; 1024], hash: u64) -> bool
     ensures { λ r. ⌜ r ≡ hasMarks (now (sieve .entry)) hash ⌝ }
 {
@@ -92,7 +92,10 @@ fn has_marks(sieve: &[u64; 1024], hash: u64) -> bool
     if !is_marked(sieve, (hash / 65536 % 65536) as usize) {
         return false;
     }
-    is_marked(sieve, (hash / 4294967296 % 65536) as usize)
+    if !is_marked(sieve, (hash / 4294967296 % 65536) as usize) {
+        return false;
+    }
+    is_marked(sieve, (hash / 256 % 65536) as usize)
 }
 
 fn give_marks(sieve: &mut [u64; 1024], hash: u64)
@@ -101,6 +104,7 @@ fn give_marks(sieve: &mut [u64; 1024], hash: u64)
     mark(sieve, (hash % 65536) as usize);
     mark(sieve, (hash / 65536 % 65536) as usize);
     mark(sieve, (hash / 4294967296 % 65536) as usize);
+    mark(sieve, (hash / 256 % 65536) as usize);
 }
 
 // Whether the record at the place is a detail of the class whose ID has its marks already: it may repeat one. A detail of the class has
@@ -140,7 +144,7 @@ fn try_at(
     walks: usize,
     sieve: &mut [u64; 1024],
 ) -> Trial
-    requires { ⌜ Stands first place (now part) × (0 < classes) × (walks ≤ 64) × (length (now sieve) ≡ 1024) × AllMarked classes class (now sieve) (cut first place (now part)) ⌝ }
+    requires { ⌜ Stands first place (now part) × (0 < classes) × (walks ≤ 40) × (length (now sieve) ≡ 1024) × AllMarked classes class (now sieve) (cut first place (now part)) ⌝ }
     ensures answer { λ r. ⌜ Tried classes class first (now (part .entry)) place (r .stops) (r .walks) ⌝ }
     ensures size { λ r. ⌜ length (now (sieve .exit)) ≡ 1024 ⌝ }
     ensures after { λ r. ⌜ AllMarked classes class (now (sieve .exit)) (cut first (place + 1) (now (part .entry))) ⌝ }
@@ -162,8 +166,8 @@ fn try_at(
 // The first place before the best at which a detail of the class repeats an earlier one; else the best. A pass that meets too many
 // suspects gives up, and its place says nothing.
 fn pass(part: &[u8], first: usize, classes: u64, class: u64, best: usize, walks: usize) -> Passing
-    requires { ⌜ (length (now part) ≤ 65535 * 850) × (first ≤ 65536) × (best * 850 ≤ length (now part)) × (0 < classes) × (walks ≤ 64) ⌝ }
-    ensures { λ r. ⌜ (r .walks ≤ 64 → Passed classes class first (now (part .entry)) best (r .place)) ⌝ }
+    requires { ⌜ (length (now part) ≤ 65535 * 850) × (first ≤ 65536) × (best * 850 ≤ length (now part)) × (0 < classes) × (walks ≤ 40) ⌝ }
+    ensures { λ r. ⌜ (r .walks ≤ 40 → Passed classes class first (now (part .entry)) best (r .place)) ⌝ }
 {
     let mut sieve = [0u64; 1024];
     let mut walks = walks;
@@ -180,8 +184,8 @@ fn pass(part: &[u8], first: usize, classes: u64, class: u64, best: usize, walks:
 }
 
 // The first repeat. A class for 8,192 records: at least every second record of a batch is no detail (01 Nesting), so that some 4,000 IDs
-// share a sieve, and a new ID meets three marks of others about once in 200 times at the end of a pass. A batch of more suspects than
-// the budget has walks, as IDs of one hash make it, is sought by blocks.
+// share a sieve of 65,536 bits, and a new ID meets four marks of others about once in 400 times at the end of a pass. A batch of more
+// suspects than the budget has walks, as IDs of one hash make it, is sought by blocks.
 pub(crate) fn first_by_classes(part: &[u8], first: usize) -> Repeat
     requires { ⌜ (length (now part) ≤ 65535 * 850) × (first ≤ 65536) ⌝ }
     ensures { λ r. ⌜ r ≡ firstRepeat Payments first [] (cut first (length (now (part .entry)) / 850) (now (part .entry))) ⌝ }

@@ -12,8 +12,11 @@ mark-requires-2 c κs = search needs
 mark-requires-3 : tie.Need-mark-requires-3
 mark-requires-3 c κs = search needs
 
+mark-requires-4 : tie.Need-mark-requires-4
+mark-requires-4 c κs = search needs
+
 returns : tie.Need-returns
 returns c = search (needs, marks-given)
 
 pub give-marks-spec : {M : Type 1} → statement M
-give-marks-spec = tie.close (tie.spec mark-requires mark-requires-2 mark-requires-3 returns)
+give-marks-spec = tie.close (tie.spec mark-requires mark-requires-2 mark-requires-3 mark-requires-4 returns)

@@ -1,5 +1,5 @@
 use Rattle.record.proofs.Chain.{reads}
-use Rattle.repeats.proofs.Marks.{marks-low, marks-middle, marks-high}
+use Rattle.repeats.proofs.Marks.{marks-low, marks-middle, marks-high, marks-between}
 use borrow.Author.Needs.{needs}
 use Rattle.repeats.proofs.sieve.has_marks.Statement.{statement}
 use Rattle.repeats.proofs.sieve.has_marks.Tie as tie
@@ -22,6 +22,12 @@ is-marked-requires-3 c κs = search needs
 returns-3 : tie.Need-returns-3
 returns-3 c = search (needs, marks-high, reads)
 
+is-marked-requires-4 : tie.Need-is-marked-requires-4
+is-marked-requires-4 c κs = search needs
+
+returns-4 : tie.Need-returns-4
+returns-4 c = search (needs, marks-between, reads)
+
 pub has-marks-spec : {M : Type 1} → statement M
 has-marks-spec =
     tie.close
@@ -31,4 +37,6 @@ has-marks-spec =
     is-marked-requires-2
     returns-2
     is-marked-requires-3
-    returns-3)
+    returns-3
+    is-marked-requires-4
+    returns-4)
