@@ -1,5 +1,5 @@
 -- How the walk goes from record to record. No promise to other crates rests on it: the proofs tie it to Batch.antt.
-use mathlib.Core.Bool.{Bool, false}
+use mathlib.Core.Bool.{Bool, true, false, not}
 use mathlib.Core.List.{List, [], _∷_, _++_}
 use Prim.Native.Nat.{ℕ, _+_, _-_, _*_, _/_, _<_}
 use lib.Dec.{eqb, leb}
@@ -21,7 +21,9 @@ use Rattle.nesting.specs.Division.{Record}
 use Rattle.nesting.specs.Records.{lineOf, cut}
 use Rattle.repeats.specs.declared.Repeat.{Repeat}
 use Rattle.repeats.specs.declared.Repeat.the-variants.{At, Nowhere}
+use Rattle.repeats.specs.declared.Sort.the-variants.{Payments}
 use Rattle.repeats.specs.declared.climb.Climbing.{Climbing}
+use Rattle.repeats.specs.Repeats.{firstRepeat}
 use Rattle.repeats.specs.Climb.{climbed, climbedBy}
 use Rattle.reasons.specs.declared.Finding.{Finding}
 use Rattle.reasons.specs.Findings.{found, sound, after}
@@ -29,6 +31,7 @@ use Rattle.rules.specs.declared.Codes.{Codes}
 use Rattle.rules.specs.declared.Context.{Context}
 use Rattle.rules.specs.Rules.{check, among, header, detail, party, account, procurement, loneProcurement, trailer, rulesFor, findings, Kept}
 use Rattle.batch.specs.declared.Row.{Row}
+use Rattle.batch.specs.declared.Seeking.{Seeking}
 use Rattle.batch.specs.declared.pass.Walked.{Walked}
 use Rattle.batch.specs.declared.payment.Open.{Open}
 use Rattle.batch.specs.declared.walk.Header.{Header}
@@ -255,6 +258,20 @@ module _ (book : Contents) where
   walkOf repeats repeat n rest =
       walkedOver repeat (n + 1) (record { state = opening repeats n (seen (lineOf n) (take 850 rest)); climbing = noClimb; records = 1 })
       (toTrailer (cut (n + 1) (length rest / 850 - 1) (drop 850 rest)))
+
+-- the repeat is somewhere
+unfoldable pub isSomewhere : Repeat → Bool
+isSomewhere (At k) = true
+isSomewhere Nowhere = false
+
+-- the first repeat of a Payment ID among the records of the bytes
+abbrev pub firstIn : ℕ → List ℕ → Repeat
+firstIn n bytes = firstRepeat Payments n [] (cut n (length bytes / 850) bytes)
+
+-- after a walk that was told of a repeat or of none: where it was told of none and an ID fell, the next is told of the one that is found, if there is one
+unfoldable pub sought : Repeat → Repeat → Bool → Seeking
+sought told first falls =
+    choose (not (isSomewhere told) and falls) (record { repeat = first; again = isSomewhere first }) (record { repeat = told; again = false })
 
 -- the row at the end of the walk
 unfoldable pub rowAt : State → ℕ → ℕ → Row

@@ -1,24 +1,51 @@
-use Rattle.batch.proofs.Judged.{climbed-row}
+use Rattle.book.specs.Book.{listedAt}
+use Rattle.batch.proofs.Judged.{Judging, walksLeft, judging-begun, end-within, rest-few, first-few, judging-less, judging-next}
 use borrow.Author.Needs.{needs}
 use Rattle.batch.proofs.judge_batch.Statement.{statement}
 use Rattle.batch.proofs.judge_batch.Tie as tie
 
-walk-batch-requires : tie.Need-walk-batch-requires
+abbrev Inv-loop : tie.InvT-loop
+Inv-loop book shelves rest first repeats row₀ repeat₀ again₀ row repeat again = Judging (listedAt book shelves) repeats first rest row repeat again
+
+abbrev μ-loop : tie.MeasureT-loop
+μ-loop book shelves rest first repeats row₀ repeat₀ again₀ row repeat again = walksLeft repeat again
+
+loop-holds : tie.Need-loop-holds Inv-loop μ-loop
+loop-holds c = judging-begun _ _ _
+
+walk-batch-requires : tie.Need-walk-batch-requires Inv-loop μ-loop
 walk-batch-requires c κs = search needs
 
-judge-fallen-requires : tie.Need-judge-fallen-requires
-judge-fallen-requires c κs = search needs
+seek-requires : tie.Need-seek-requires Inv-loop μ-loop
+seek-requires c κs =
+    let j = c .before .before .before .before .before .before .pre .1 in
+    let e = c .before .walk-batch .ensures in
+    (end-within _ _ _ j e, rest-few _ _ _ j e, first-few _ _ _ j e)
 
-returns : tie.Need-returns
-returns c = search needs
-
-row-of-requires : tie.Need-row-of-requires
+row-of-requires : tie.Need-row-of-requires Inv-loop μ-loop
 row-of-requires c κs = search needs
 
-returns-2 : tie.Need-returns-2
-returns-2 c = climbed-row _ _ (c .before .before .before .before .before .before .pre .1) (c .before .before .before .walk-batch .ensures) (c .before .if1 .left) (c .row-of .ensures)
+loop-less : tie.Need-loop-less Inv-loop μ-loop
+loop-less c = judging-less _ _ _ (c .before .before .before .before .before .before .before .before .pre .1) (c .before .before .before .walk-batch .ensures) (c .before .before .before .before .before .loop .inv) (c .before .before .before .before .loop-test .taken) _ (c .before .seek .ensures)
+
+loop-again : tie.Need-loop-again Inv-loop μ-loop
+loop-again c =
+    judging-next _ _ _ (c .before .before .before .before .before .before .before .before .pre .1) (c .before .before .before .walk-batch .ensures) (c .before .before .before .before .before .loop .inv) (c .before .before .before .before .loop-test .taken) _ (c .before .seek .ensures)
+    _ (c .row-of .ensures)
+
+returns : tie.Need-returns Inv-loop μ-loop
+returns c = c .before .loop .inv .done (c .loop-test .left)
 
 pub judge-batch-spec : {M : Type 1} → statement M
 judge-batch-spec =
     tie.close
-    (tie.spec walk-batch-requires judge-fallen-requires returns row-of-requires returns-2)
+    (tie.spec
+    Inv-loop
+    μ-loop
+    loop-holds
+    walk-batch-requires
+    seek-requires
+    row-of-requires
+    loop-less
+    loop-again
+    returns)
