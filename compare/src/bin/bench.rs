@@ -323,7 +323,7 @@ mod sieve {
 
     pub const MIX: u64 = 2_654_435_761;
     /// The suspects of a batch that the judge seeks by plain walks.
-    pub const WALKS: usize = 64;
+    pub const WALKS: usize = 40;
     pub const SLOTS: usize = 1 << 16;
 
     pub fn mix(hash: u64, word: u64) -> u64 {
@@ -352,8 +352,8 @@ mod sieve {
     }
 
     /// The bits that the hash marks in the sieve of its class.
-    pub fn slots(hash: u64) -> [usize; 3] {
-        [0, 16, 32].map(|shift| (hash >> shift) as usize % SLOTS)
+    pub fn slots(hash: u64) -> [usize; 4] {
+        [0, 16, 32, 8].map(|shift| (hash >> shift) as usize % SLOTS)
     }
 }
 
@@ -620,7 +620,7 @@ fn main() {
                 0,
             ),
             (
-                "(a) with 65 suspects, all at the end and of the last class, 16 bytes shared, descending",
+                "(a) with 41 suspects, all at the end and of the last class, 16 bytes shared, descending",
                 &|| one_batch(records, &ids_with_late_suspects(payments, classes)),
                 0,
             ),

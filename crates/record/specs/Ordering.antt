@@ -19,3 +19,9 @@ unfoldable pub isBefore : Order → Bool
 isBefore Before = true
 isBefore Same = false
 isBefore After = false
+
+-- the first stands after the second
+unfoldable pub isAfter : Order → Bool
+isAfter Before = false
+isAfter Same = false
+isAfter After = true

@@ -7,7 +7,7 @@ use Prim.Native.Nat.{ℕ, _+_}
 use Rattle.record.specs.declared.codes.Code.{Code}
 use Rattle.record.specs.Choice.{_and_, choose}
 use Rattle.record.specs.Value.{held}
-use Rattle.record.specs.Ordering.{order}
+use Rattle.record.specs.Ordering.{order, isAfter}
 use Rattle.record.specs.Codes.{codeOf, isDetail}
 use Rattle.record.proofs.Chain.{choose-yes, choose-no}
 use Rattle.nesting.specs.Division.{Record}
@@ -16,7 +16,6 @@ use Rattle.repeats.specs.declared.Sort.the-variants.{Payments}
 use Rattle.repeats.specs.declared.climb.Climbing.{Climbing}
 use Rattle.tables.specs.Tables.{member}
 use Rattle.repeats.specs.Repeats.{numbering, isOf, numbers, repeats, firstRepeat, Topped}
-use Rattle.repeats.specs.Places.{isAfter}
 use Rattle.repeats.specs.Climb.{climbed, climbedBy}
 use Rattle.repeats.proofs.Greatest.{topped-miss, topped-raise}
 use Rattle.repeats.proofs.Looks.{numbers-snoc}

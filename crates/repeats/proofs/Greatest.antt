@@ -15,13 +15,12 @@ use Rattle.record.specs.declared.Order.the-variants.{Before, Same, After}
 use Rattle.record.specs.Choice.{_or_}
 use Rattle.record.specs.Value.{Has, seen, held}
 use Rattle.record.specs.Tests.{alike}
-use Rattle.record.specs.Ordering.{order}
+use Rattle.record.specs.Ordering.{order, isAfter}
 use Rattle.record.proofs.Held.{held-length}
 use Rattle.record.proofs.Same.{alike-equal}
-use Rattle.record.proofs.Orders.{before, after, level, Level, turned, order-turned, order-self, order-transitive}
+use Rattle.record.proofs.Orders.{before, after, level, Level, turn-before, turn-after, order-self, order-transitive}
 use Rattle.tables.specs.Tables.{member}
 use Rattle.repeats.specs.Repeats.{Topped}
-use Rattle.repeats.specs.Places.{isAfter}
 
 -- by the first byte
 above : (x y : ℕ) (xs ys : List ℕ) → y < x → isAfter (order (x ∷ xs) (y ∷ ys)) ≡ true
@@ -84,14 +83,6 @@ unfolding isAfter
 after-itself xs e = not-after (order xs xs) (rw (order-self xs)) e
 
 -- what stands after one that stands after a third stands after the third
-turn-after : (xs ys : List ℕ) → order xs ys ≡ After → order ys xs ≡ Before
-unfolding turned
-turn-after xs ys e = order-turned xs ys ∙ ap turned e
-
-turn-before : (xs ys : List ℕ) → order xs ys ≡ Before → order ys xs ≡ After
-unfolding turned
-turn-before xs ys e = order-turned xs ys ∙ ap turned e
-
 after-both : (xs ys zs : List ℕ) → order xs ys ≡ After → order ys zs ≡ After → order xs zs ≡ After
 after-both xs ys zs e f = turn-before zs xs (order-transitive zs ys xs (turn-after ys zs f) (turn-after xs ys e))
 
@@ -105,11 +96,6 @@ module _ (greatest x : List ℕ) where
       go : (b : Bool) → alike y x ≡ b → member x ys ≡ false → (b or member x ys) ≡ false
       go false a m = m
       go true a m = absurd (t .0 (rw (alike-equal y x a) (is-after (order x greatest) e)))
-
-  pub topped-keep : (ys : List (List ℕ)) → Topped greatest ys → isAfter (order x greatest) ≡ false → Topped greatest (ys ++ x ∷ [])
-  unfolding Topped
-  topped-keep [] t e = (not-after (order x greatest) e, tt)
-  topped-keep (y ∷ ys) t e = (t .0, topped-keep ys (t .1) e)
 
   pub topped-raise : (ys : List (List ℕ)) → Topped greatest ys → isAfter (order x greatest) ≡ true → Topped x (ys ++ x ∷ [])
   unfolding Topped

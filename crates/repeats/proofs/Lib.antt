@@ -9,7 +9,7 @@ mod Hashes
 mod Marks
 mod Classes
 mod Passes
-mod Ranges
+pub mod Ranges
 mod Visits
 mod Sought
 pub mod Schedules

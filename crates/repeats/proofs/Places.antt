@@ -10,14 +10,13 @@ use Rattle.record.specs.declared.Field.{Field}
 use Rattle.record.specs.declared.codes.Code.{Code}
 use Rattle.record.specs.Value.{held}
 use Rattle.record.specs.Tests.{alike}
-use Rattle.record.specs.Ordering.{order}
+use Rattle.record.specs.Ordering.{order, isAfter}
 use Rattle.record.specs.Codes.{codeOf, isDetail, isHeader}
 use Rattle.nesting.specs.Records.{recordAt}
 use Rattle.nesting.proofs.Cuts.{bytesFrom, recordFrom, from-place, from-length}
 use Rattle.repeats.specs.declared.Sort.{Sort}
 use Rattle.repeats.specs.declared.Sort.the-variants.{Payments, Batches}
 use Rattle.repeats.specs.Repeats.{numbering, isOf}
-use Rattle.repeats.specs.Places.{isAfter}
 
 -- the record at the place is of the sort
 module _ (sort : Sort) (first place : ℕ) (xs : List ℕ) (k : Code) (r : Bool) (e : k ≡ codeOf (recordFrom xs (first + place) (place * 850))) where

@@ -8,13 +8,12 @@ use native.Mathlib.Omega.{arith}
 use lib.Dec.{eqb}
 use lib.ListN.{length, drop, getD}
 use Rattle.record.specs.Choice.{_and_, _or_, choose}
-use Rattle.record.specs.Ordering.{order}
+use Rattle.record.specs.Ordering.{order, isAfter}
 use Rattle.nesting.specs.Records.{cut, recordAt}
 use Rattle.nesting.proofs.Cuts.{cut-onward, cut-snoc}
 use Rattle.repeats.specs.declared.Sort.the-variants.{Batches}
 use Rattle.tables.specs.Tables.{member}
-use Rattle.repeats.specs.Repeats.{numbering, isOf, numbers, Topped}
-use Rattle.repeats.specs.Places.{isAfter}
+use Rattle.repeats.specs.Repeats.{numbers, Topped}
 use Rattle.repeats.specs.Schedules.{flagsOf, Noted, numbersBefore, numbersFrom, numberAt, Batched, goesUp, falls, numbered, flagged}
 use Rattle.repeats.proofs.Greatest.{topped-miss, topped-raise}
 use Rattle.repeats.proofs.Looks.{numbers-snoc}
@@ -100,10 +99,6 @@ module _ (file : List ℕ) (place : ℕ) {flags : List ℕ} (b : Batched file pl
       pub after-down : fs ≡ flagged file place greatest marked flags
       unfolding flagged falls choose _and_
       after-down = rw (m, a) e
-
-      pub down-flag : 0 < length fs
-      unfolding flagsOf
-      down-flag = rw (e, from-next) (omega arith)
 
     -- what is known of the next
     pub noted-next : Noted (numbersBefore file (place + 1)) (numbersFrom file (place + 1)) (numbered file place greatest marked .greatest) (numbered file place greatest marked .marked) (drop 1 (flagged file place greatest marked flags))

@@ -3,12 +3,11 @@ use mathlib.Core.Bool.{true, false}
 use mathlib.Core.List.{List, [], _∷_}
 use Rattle.record.specs.Choice.{choose}
 use Rattle.record.specs.Value.{held}
-use Rattle.record.specs.Ordering.{order}
+use Rattle.record.specs.Ordering.{order, isAfter}
 use Rattle.nesting.specs.Division.{Record}
 use Rattle.repeats.specs.declared.Sort.the-variants.{Payments}
 use Rattle.repeats.specs.declared.climb.Climbing.{Climbing}
 use Rattle.repeats.specs.Repeats.{numbering, isOf}
-use Rattle.repeats.specs.Places.{isAfter}
 
 -- what is known of a climb after one record more: nothing new where an ID fell or where it is no detail, else whether its ID stands after
 -- the greatest, and which is the greatest now

@@ -1,5 +1,4 @@
 pub mod Repeats
-pub mod Places
 pub mod Climb
 pub mod Sieve
 pub mod Blocks

@@ -6,13 +6,12 @@ use mathlib.Core.List.{List, [], _∷_, _++_}
 use lib.ListN.{length, drop}
 use Rattle.record.specs.Choice.{_and_, _or_, choose}
 use Rattle.record.specs.Value.{held}
-use Rattle.record.specs.Ordering.{order}
+use Rattle.record.specs.Ordering.{order, isAfter}
 use Rattle.nesting.specs.Records.{cut, recordAt}
 use Rattle.repeats.specs.declared.Sort.the-variants.{Batches}
 use Rattle.repeats.specs.declared.Numbering.{Numbering}
 use Rattle.tables.specs.Tables.{member}
 use Rattle.repeats.specs.Repeats.{numbering, isOf, numbers, Topped}
-use Rattle.repeats.specs.Places.{isAfter}
 
 -- of each number in turn, after these: 1 where it is an earlier one, 0 where it is new
 unfoldable pub flagsOf : List (List ℕ) → List (List ℕ) → List ℕ

@@ -12,12 +12,11 @@ ghost use lib.ListN.{length};
 ghost use Rattle.record.specs.Choice.{_and_};
 ghost use Rattle.record.specs.Value.{Has, seen, held};
 ghost use Rattle.record.specs.Tests.{alike};
-ghost use Rattle.record.specs.Ordering.{order};
+ghost use Rattle.record.specs.Ordering.{order, isAfter};
 ghost use Rattle.nesting.specs.Records.{cut, recordAt};
 ghost use Rattle.tables.specs.Tables.{Stands};
 ghost use Rattle.repeats.specs.declared.Sort.the-variants.{Payments, Batches};
 ghost use Rattle.repeats.specs.Repeats.{numbering, isOf, repeats};
-ghost use Rattle.repeats.specs.Places.{isAfter};
 
 // Where the number stands: 004 fields 23 and 6.
 pub(crate) fn number_field(sort: Sort) -> Field

@@ -71,7 +71,7 @@ module _ (file : List ℕ) (place : ℕ) (greatest : List ℕ) (marked : Bool) (
     pub left-room : batches - written ≤ end
     left-room = left-fits batches written end report (n .left) e
 
-    pub end-fits : end ≤ length report
+    end-fits : end ≤ length report
     end-fits = rw e (n .room)
 
     pub part-batched : Batched file place part

@@ -1,7 +1,7 @@
 -- The schedule numbers among a file's records are those of its batches: no record but a batch's header has one.
 -- Assumes nothing.
 use mathlib.Core.Path.{_≡_, refl, ap, _∙_}
-use mathlib.Core.Bool.{Bool, true, false}
+use mathlib.Core.Bool.{true, false}
 use mathlib.Core.List.{List, [], _∷_, _++_, map, append-nil}
 use Prim.Native.Nat.{ℕ}
 use Rattle.record.specs.declared.codes.Letter.{Letter}
@@ -16,6 +16,7 @@ use Rattle.nesting.specs.Division.{Record, All, FH, FT, batchCode, detailCode, 
 use Rattle.nesting.proofs.Coding.{of-bytes, lettered}
 use Rattle.repeats.specs.declared.Sort.the-variants.{Batches}
 use Rattle.repeats.specs.Repeats.{numbering, isOf, numbers}
+use Rattle.repeats.proofs.Ranges.{numbers-append}
 use Rattle.rows.specs.Report.{scheduleOf}
 
 -- a record of another code has none
@@ -66,21 +67,11 @@ unfolding codeBytes isHeader numbers
 schedules fh h bs gs = other FileHeader refl fh (batchesOnto bs []) h ∙ of-batches bs [] gs ∙ append-nil (map scheduleOf bs)
 
 -- those of a batch and of what follows it up to FT
-numbers-append : (xs ys : List Record) → numbers Batches (xs ++ ys) ≡ numbers Batches xs ++ numbers Batches ys
-unfolding numbers choose
-numbers-append [] ys = refl
-numbers-append (x ∷ xs) ys = rw (numbers-append xs ys) (chosen (isOf Batches x))
-  where
-    chosen : (t : Bool) → choose t (held x (numbering Batches) ∷ (numbers Batches xs ++ numbers Batches ys)) (numbers Batches xs ++ numbers Batches ys)
-        ≡ choose t (held x (numbering Batches) ∷ numbers Batches xs) (numbers Batches xs) ++ numbers Batches ys
-    chosen true = refl
-    chosen false = refl
-
 pub schedules-from : (b : Batch) → LegalBatch b → (later : List Batch) → All LegalBatch later → (ft : Record) → Coded FT ft
     → numbers Batches (batchLines b ++ batchesOnto later (ft ∷ [])) ≡ map scheduleOf (b ∷ later)
 unfolding codeBytes isHeader numbers
 schedules-from b g later gs ft h =
-    numbers-append (batchLines b) (batchesOnto later (ft ∷ []))
+    numbers-append Batches (batchLines b) (batchesOnto later (ft ∷ []))
     ∙ (λ i. of-batches (b ∷ []) [] (g, tt) i ++ of-batches later (ft ∷ []) gs i)
     ∙ ap (λ (ns : List (List ℕ)). scheduleOf b ∷ (map scheduleOf later ++ ns)) (other FileTrailer refl ft [] h)
     ∙ ap (_∷_ (scheduleOf b)) (append-nil (map scheduleOf later))

@@ -1,6 +1,6 @@
 use Rattle.record.proofs.Chain.{reads}
 use Rattle.repeats.specs.Repeats.{numbering}
-use Rattle.repeats.proofs.Schedules.{some-flag, down-flag, tell-marked, after-marked, tell-up, after-up, tell-down, after-down}
+use Rattle.repeats.proofs.Schedules.{some-flag, tell-marked, after-marked, tell-up, after-up, tell-down, after-down}
 use borrow.Author.Needs.{needs}
 use Rattle.repeats.proofs.number_batch.Statement.{statement}
 use Rattle.repeats.proofs.number_batch.Tie as tie

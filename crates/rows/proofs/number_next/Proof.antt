@@ -1,4 +1,4 @@
-use Rattle.rows.proofs.Flagging.{left-room, end-fits, part-batched, part-noted, part-back}
+use Rattle.rows.proofs.Flagging.{left-room, part-batched, part-noted, part-back}
 use borrow.Author.Needs.{needs}
 use Rattle.rows.proofs.number_next.Statement.{statement}
 use Rattle.rows.proofs.number_next.Tie as tie
