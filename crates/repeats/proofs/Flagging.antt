@@ -291,14 +291,14 @@ module _ (file : List ℕ) where
         let e : start + (length file / 850 - start) - start ≡ length file / 850 - start = omega arith in
         rw e
 
-    pub marked-all : (from : ℕ) (flags : List ℕ) → start * 850 ≤ length file → length file / 850 ≤ from → Marked file start from flags → flags ≡ flagsOf (numbersBefore file start) (numbersFrom file start)
+    pub marked-all : (from : ℕ) (flags : List ℕ) → start * 850 + 850 ≤ length file → length file / 850 ≤ from → Marked file start from flags → flags ≡ flagsOf (numbersBefore file start) (numbersFrom file start)
     marked-all from flags w h e = e ∙ marks-all from (length file / 850 - start) (omega arith) ∙ sym (ap (flagsOf (numbersBefore file start)) (from-start (omega arith)))
 
-    pub marked-none : (flags before : List ℕ) → start * 850 ≤ length file → length before ≡ length (numbersFrom file start) → flags ≡ zeros (length before) → Marked file start 0 flags
+    pub marked-none : (flags before : List ℕ) → start * 850 + 850 ≤ length file → length before ≡ length (numbersFrom file start) → flags ≡ zeros (length before) → Marked file start 0 flags
     marked-none flags before w n e =
         e ∙ ap zeros (n ∙ ap length (from-start (omega arith)) ∙ sym (marks-length 0 (length file / 850 - start))) ∙ sym (marks-none (length file / 850 - start))
 
-    pub marked-length : (from : ℕ) (flags before : List ℕ) → start * 850 ≤ length file → length before ≡ length (numbersFrom file start) → Marked file start from flags → length flags ≡ length before
+    pub marked-length : (from : ℕ) (flags before : List ℕ) → start * 850 + 850 ≤ length file → length before ≡ length (numbersFrom file start) → Marked file start from flags → length flags ≡ length before
     marked-length from flags before w n e = ap length e ∙ marks-length from (length file / 850 - start) ∙ ap length (sym (from-start (omega arith))) ∙ sym n
 
     -- at a place of a block that begins at `from`: the flags before it are told by the block too, those behind it are as they were

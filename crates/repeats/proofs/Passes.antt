@@ -58,7 +58,7 @@ pub record Best (classes first : ℕ) (xs : List ℕ) (count best c : ℕ) : Typ
   pub clean : (k : ℕ) → k < best → classOf classes (idOf (recordAt first k xs)) < c → isRepeat first xs k ≡ false
   pub found : best < count → isRepeat first xs best ≡ true
 
-pub best-none : (classes first : ℕ) (xs : List ℕ) (count : ℕ) → Best classes first xs count count 0
+best-none : (classes first : ℕ) (xs : List ℕ) (count : ℕ) → Best classes first xs count count 0
 best-none classes first xs count = record { within = omega arith; clean = λ k h l. absurd (omega arith); found = λ h. absurd (lt-irrefl count h) }
 
 -- no repeat of its class is no repeat; a repeat of a class is a repeat
@@ -95,6 +95,10 @@ module _ (classes first : ℕ) (xs : List ℕ) (count best c : ℕ) (o : Best cl
         clean = λ k h l. ⊎-elim (λ (q : classOf classes (idOf (recordAt first k xs)) ≡ c). here k h q) (λ (q : classOf classes (idOf (recordAt first k xs)) < c). o .clean k (omega arith) q) (eq-or-lt-of-le (le-of-suc-le-suc (rw (← add-one c) l)));
         found = λ h. ⊎-elim (λ (q : place ≡ best). same place best q (o .found (omega arith))) (λ (q : place < best). there q) (eq-or-lt-of-le w);
       }
+
+-- after the first pass
+pub best-first : (classes first : ℕ) (xs : List ℕ) (count place : ℕ) → Passed classes 0 first xs count place → Best classes first xs count place 1
+best-first classes first xs count place p = best-next classes first xs count count 0 (best-none classes first xs count) place p
 
 -- after all passes
 module _ (first : ℕ) (xs : List ℕ) (count : ℕ) (m : count ≡ length xs / 850) where

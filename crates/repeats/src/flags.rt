@@ -92,14 +92,15 @@ fn mark_block(file: &[u8], start: usize, from: usize, flags: &mut [u8]) -> usize
     next
 }
 
-// Marks each batch from the start on: 1 where an earlier batch of the file has its number, else 0.
+// Marks each batch from the start on: 1 where an earlier batch of the file has its number, else 0. The first block stands apart: a function that
+// is called in two places keeps a frame of its own, so that its table is on the stack only while it runs.
 pub(crate) fn mark_batches(file: &[u8], start: usize, flags: &mut [u8])
-    requires { ⌜ (start * 850 ≤ length (now file)) × (length (now file) ≤ 65535 * 850) × (length (now flags) ≡ length (numbersFrom (now file) start)) ⌝ }
+    requires { ⌜ (start * 850 + 850 ≤ length (now file)) × (length (now file) ≤ 65535 * 850) × (length (now flags) ≡ length (numbersFrom (now file) start)) ⌝ }
     ensures { λ r. ⌜ now (flags .exit) ≡ flagsOf (numbersBefore (now (file .entry)) start) (numbersFrom (now (file .entry)) start) ⌝ }
 {
     clear(flags);
     let records = file.len() / 850;
-    let mut from: usize = 0;
+    let mut from = mark_block(file, start, 0, flags);
     while from < records {
         from = mark_block(file, start, from, flags);
     }

@@ -185,27 +185,33 @@ fn pass(part: &[u8], first: usize, classes: u64, class: u64, best: usize, walks:
 
 // The first repeat. A class for 8,192 records: at least every second record of a batch is no detail (01 Nesting), so that some 4,000 IDs
 // share a sieve of 65,536 bits, and a new ID meets four marks of others about once in 400 times at the end of a pass. A batch of more
-// suspects than the budget has walks, as IDs of one hash make it, is sought by blocks.
+// suspects than the budget has walks, as IDs of one hash make it, is sought by blocks. The first class stands apart: a function that is called in
+// two places keeps a frame of its own, so that the sieve is on the stack only while it is used, and not while a batch is walked.
 pub(crate) fn first_by_classes(part: &[u8], first: usize) -> Repeat
     requires { ⌜ (length (now part) ≤ 65535 * 850) × (first ≤ 65536) ⌝ }
     ensures { λ r. ⌜ r ≡ firstRepeat Payments first [] (cut first (length (now (part .entry)) / 850) (now (part .entry))) ⌝ }
 {
     let count = part.len() / 850;
     let classes = (count / 8192) as u64 + 1;
-    let mut best = count;
-    let mut walks: usize = 0;
-    let mut class: u64 = 0;
+    let opened = pass(part, first, classes, 0, count, 0);
+    if WALKS < opened.walks {
+        return first_by_blocks(part, first);
+    }
+    let mut best = opened.place;
+    let mut walks = opened.walks;
+    let mut class: u64 = 1;
     while class < classes {
-        let passing = pass(part, first, classes, class, best, walks);
-        if WALKS < passing.walks {
+        let passed = pass(part, first, classes, class, best, walks);
+        if WALKS < passed.walks {
             return first_by_blocks(part, first);
         }
-        best = passing.place;
-        walks = passing.walks;
+        best = passed.place;
+        walks = passed.walks;
         class += 1;
     }
     if best < count {
-        return Repeat::At(first + best);
+        let number = first + best;
+        return Repeat::At(number);
     }
     Repeat::Nowhere
 }

@@ -14,11 +14,14 @@ abbrev μ-loop : tie.MeasureT-loop
 clear-requires : tie.Need-clear-requires Inv-loop μ-loop
 clear-requires c κs = search needs
 
-loop-holds : tie.Need-loop-holds Inv-loop μ-loop
-loop-holds c = search (needs, marked-none)
-
 mark-block-requires : tie.Need-mark-block-requires Inv-loop μ-loop
-mark-block-requires c κs = search needs
+mark-block-requires c κs = search (needs, marked-none)
+
+loop-holds : tie.Need-loop-holds Inv-loop μ-loop
+loop-holds c = search needs
+
+mark-block-requires-2 : tie.Need-mark-block-requires-2 Inv-loop μ-loop
+mark-block-requires-2 c κs = search needs
 
 loop-less : tie.Need-loop-less Inv-loop μ-loop
 loop-less c = search needs
@@ -39,8 +42,9 @@ mark-batches-spec =
     Inv-loop
     μ-loop
     clear-requires
-    loop-holds
     mark-block-requires
+    loop-holds
+    mark-block-requires-2
     loop-less
     loop-again
     same-length
