@@ -323,7 +323,7 @@ mod sieve {
 
     pub const MIX: u64 = 2_654_435_761;
     /// The suspects of a batch that the judge seeks by plain walks.
-    pub const WALKS: usize = 40;
+    pub const WALKS: usize = 32;
     pub const SLOTS: usize = 1 << 16;
 
     pub fn mix(hash: u64, word: u64) -> u64 {
@@ -620,7 +620,7 @@ fn main() {
                 0,
             ),
             (
-                "(a) with 41 suspects, all at the end and of the last class, 16 bytes shared, descending",
+                "(a) with 33 suspects, all at the end and of the last class, 16 bytes shared, descending",
                 &|| one_batch(records, &ids_with_late_suspects(payments, classes)),
                 0,
             ),

@@ -92,8 +92,8 @@ repeatsIn classes class first bytes place =
 
 -- a trial of that record: it is told while the suspects are in the budget, and a pass that goes on is in it
 pub record Tried (classes class first : ℕ) (bytes : List ℕ) (place : ℕ) (stops : Bool) (walks : ℕ) : Type 0 where
-  pub answer : walks ≤ 40 → stops ≡ repeatsIn classes class first bytes place
-  pub budget : stops ≡ false → walks ≤ 40
+  pub answer : walks ≤ 32 → stops ≡ repeatsIn classes class first bytes place
+  pub budget : stops ≡ false → walks ≤ 32
 
 -- the first such place before the best, or the best
 pub record Passed (classes class first : ℕ) (bytes : List ℕ) (best place : ℕ) : Type 0 where

@@ -19,7 +19,7 @@ ghost use Rattle.repeats.specs.Repeats.{firstRepeat};
 ghost use Rattle.repeats.specs.Sieve.{wordOf, mixed, hashOf, marked, isMarked, hasMarks, withMarks, isSuspect, sifted, AllMarked, Tried, Passed};
 
 // The suspects of a batch that are walked: past them, blocks decide.
-const WALKS: usize = 40;
+const WALKS: usize = 32;
 
 // Whether a pass stops at a record, and the suspects counted after it.
 struct Trial {
@@ -144,7 +144,7 @@ fn try_at(
     walks: usize,
     sieve: &mut [u64; 1024],
 ) -> Trial
-    requires { ⌜ Stands first place (now part) × (0 < classes) × (walks ≤ 40) × (length (now sieve) ≡ 1024) × AllMarked classes class (now sieve) (cut first place (now part)) ⌝ }
+    requires { ⌜ Stands first place (now part) × (0 < classes) × (walks ≤ 32) × (length (now sieve) ≡ 1024) × AllMarked classes class (now sieve) (cut first place (now part)) ⌝ }
     ensures answer { λ r. ⌜ Tried classes class first (now (part .entry)) place (r .stops) (r .walks) ⌝ }
     ensures size { λ r. ⌜ length (now (sieve .exit)) ≡ 1024 ⌝ }
     ensures after { λ r. ⌜ AllMarked classes class (now (sieve .exit)) (cut first (place + 1) (now (part .entry))) ⌝ }
@@ -166,8 +166,8 @@ fn try_at(
 // The first place before the best at which a detail of the class repeats an earlier one; else the best. A pass that meets too many
 // suspects gives up, and its place says nothing.
 fn pass(part: &[u8], first: usize, classes: u64, class: u64, best: usize, walks: usize) -> Passing
-    requires { ⌜ (length (now part) ≤ 65535 * 850) × (first ≤ 65536) × (best * 850 ≤ length (now part)) × (0 < classes) × (walks ≤ 40) ⌝ }
-    ensures { λ r. ⌜ (r .walks ≤ 40 → Passed classes class first (now (part .entry)) best (r .place)) ⌝ }
+    requires { ⌜ (length (now part) ≤ 65535 * 850) × (first ≤ 65536) × (best * 850 ≤ length (now part)) × (0 < classes) × (walks ≤ 32) ⌝ }
+    ensures { λ r. ⌜ (r .walks ≤ 32 → Passed classes class first (now (part .entry)) best (r .place)) ⌝ }
 {
     let mut sieve = [0u64; 1024];
     let mut walks = walks;

@@ -10,7 +10,7 @@ use Rattle.repeats.proofs.sieve.pass.Statement.{statement}
 use Rattle.repeats.proofs.sieve.pass.Tie as tie
 
 abbrev Inv-loop : tie.InvT-loop
-Inv-loop part first classes class best walks sieve₀ walks₀ place₀ sieve walks' place = (place ≤ best) × (walks' ≤ 40) × (length sieve ≡ 1024) × AllMarked classes class sieve (cut first place part) × Clean classes class first part place
+Inv-loop part first classes class best walks sieve₀ walks₀ place₀ sieve walks' place = (place ≤ best) × (walks' ≤ 32) × (length sieve ≡ 1024) × AllMarked classes class sieve (cut first place part) × Clean classes class first part place
 
 abbrev μ-loop : tie.MeasureT-loop
 μ-loop part first classes class best walks sieve₀ walks₀ place₀ sieve walks' place = best - place
