@@ -18,7 +18,7 @@ use Rattle.nesting.proofs.Cuts.{cut-snoc}
 use Rattle.tables.specs.Tables.{member}
 use Rattle.repeats.specs.declared.Sort.the-variants.{Payments}
 use Rattle.repeats.specs.Repeats.{isOf, numbers, repeats}
-use Rattle.repeats.specs.Sieve.{idOf, hashOf, hasMarks, withMarks, classOf, inClass, isSuspect, sifted, AllMarked, repeatsIn, Tried}
+use Rattle.repeats.specs.Sieve.{idOf, hashOf, hasMarks, withMarks, classOf, inClass, isSuspect, sifted, AllMarked, repeatsIn, mostWalks, Tried}
 use Rattle.repeats.proofs.Marks.{marks-length, marks-keep, marks-own}
 use Rattle.repeats.proofs.Walks.{member-choose}
 
@@ -130,17 +130,17 @@ module _ (classes class first : ℕ) (xs : List ℕ) where
       unsuspected false n e f t m = in-other e
       unsuspected true n e f t m = in-new sieve (f ∙ t) e m
 
-      pub tried-new : isSuspect classes class sieve (recordAt first place xs) ≡ false → AllMarked classes class sieve (cut first place xs) → walks ≤ 32
+      pub tried-new : isSuspect classes class sieve (recordAt first place xs) ≡ false → AllMarked classes class sieve (cut first place xs) → walks ≤ mostWalks
           → Tried classes class first xs place false walks
       unfolding isSuspect
       tried-new t m h = record { answer = λ l. unsuspected _ _ refl refl t m; budget = λ l. h }
 
-      pub tried-walked : (s r : Bool) → s ≡ isSuspect classes class sieve (recordAt first place xs) → not s ≡ false → walks ≤ 32
+      pub tried-walked : (s r : Bool) → s ≡ isSuspect classes class sieve (recordAt first place xs) → not s ≡ false → walks ≤ mostWalks
           → r ≡ repeats Payments (cut first place xs) (recordAt first place xs) → Tried classes class first xs place r walks
       unfolding isSuspect
       tried-walked s r q t h e = record { answer = λ l. in-walked r (and-left _ _ (sym q ∙ not-false s t)) e; budget = λ l. h }
 
-    pub tried-spent : (walks : ℕ) → 32 < walks → Tried classes class first xs place true walks
+    pub tried-spent : (walks : ℕ) → mostWalks < walks → Tried classes class first xs place true walks
     tried-spent walks h = record { answer = λ l. absurd (omega arith); budget = λ e. absurd (true≢false e) }
 
     -- the marks after the record

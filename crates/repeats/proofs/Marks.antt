@@ -4,7 +4,7 @@ use mathlib.Core.Path.{_≡_, refl, sym, ap, _∙_}
 use mathlib.Core.Bool.{Bool, true, false, true≢false}
 use mathlib.Core.Logic.{_⊎_, inl, inr, ⊎-elim}
 use mathlib.Core.List.{List}
-use Prim.Native.Nat.{ℕ, max, _*_, _/_, _%_, _^_, _≤_, _<_}
+use Prim.Native.Nat.{ℕ, zero, suc, max, _-_, _*_, _/_, _%_, _^_, _≤_, _<_}
 use native.Mathlib.Omega.{arith}
 use native.Mathlib.Nat.{pow-le-pow-right, div-self}
 use borrow.Author.Tests.{eq-eqb, eqb-true}
@@ -14,7 +14,7 @@ use lib.ListN.{length, getD, set, length-set}
 use lib.Seq.{getD-set-same, getD-set-other}
 use Rattle.record.specs.Choice.{_and_}
 use Rattle.record.proofs.Chain.{and-left, and-right}
-use Rattle.repeats.specs.Sieve.{marked, isMarked, lowSlot, middleSlot, highSlot, betweenSlot, hasMarks, withMarks}
+use Rattle.repeats.specs.Sieve.{marked, isMarked, hasNext, withNext, markCount, hasMarks, withMarks}
 
 -- the mask of a slot, as the code makes it
 mask-small : (slot : ℕ) → 2 ^ (slot % 64) < 18446744073709551616
@@ -102,89 +102,97 @@ mark-length : (sieve : List ℕ) (slot : ℕ) → length sieve ≡ 1024 → leng
 unfolding marked
 mark-length sieve slot n = length-set sieve (slot / 64) _ ∙ n
 
--- the four marks of a hash, as the code tests and sets them
+-- the marks of a hash, as the code tests and sets them one by one
+one-less : (n : ℕ) → n ≡ suc n - 1
+one-less n = omega arith
+
+has-next : (sieve : List ℕ) (left rest : ℕ) → 0 < left → hasNext sieve left rest ≡ (isMarked sieve (rest % 65536) and hasNext sieve (left - 1) (rest / 32))
+unfolding hasNext
+has-next sieve zero rest h = absurd (omega arith)
+has-next sieve (suc left) rest h = ap (λ (n : ℕ). isMarked sieve (rest % 65536) and hasNext sieve n (rest / 32)) (one-less left)
+
+with-next : (sieve : List ℕ) (left rest : ℕ) → 0 < left → withNext sieve left rest ≡ withNext (marked sieve (rest % 65536)) (left - 1) (rest / 32)
+unfolding withNext
+with-next sieve zero rest h = absurd (omega arith)
+with-next sieve (suc left) rest h = ap (λ (n : ℕ). withNext (marked sieve (rest % 65536)) n (rest / 32)) (one-less left)
+
 module _ (sieve : List ℕ) (hash : ℕ) where
-  pub marks-low : isMarked sieve (lowSlot hash) ≡ false → false ≡ hasMarks sieve hash
-  unfolding hasMarks _and_
-  marks-low e = sym (rw e)
+  pub marks-begun : hasMarks sieve hash ≡ hasNext sieve markCount hash
+  unfolding hasMarks
+  marks-begun = refl
 
-  pub marks-middle : isMarked sieve (lowSlot hash) ≡ true → isMarked sieve (middleSlot hash) ≡ false → false ≡ hasMarks sieve hash
-  unfolding hasMarks _and_
-  marks-middle e f = sym (rw (e, f))
-
-  pub marks-high : isMarked sieve (lowSlot hash) ≡ true → isMarked sieve (middleSlot hash) ≡ true → isMarked sieve (highSlot hash) ≡ false → false ≡ hasMarks sieve hash
-  unfolding hasMarks _and_
-  marks-high e f g = sym (rw (e, f, g))
-
-  pub marks-between : (r : Bool) → isMarked sieve (lowSlot hash) ≡ true → isMarked sieve (middleSlot hash) ≡ true → isMarked sieve (highSlot hash) ≡ true
-      → r ≡ isMarked sieve (betweenSlot hash) → r ≡ hasMarks sieve hash
-  unfolding hasMarks _and_
-  marks-between r e f g h = sym (rw (e, f, g) (sym h))
-
-  pub marks-given : (a b c d : List ℕ) → a ≡ marked sieve (lowSlot hash) → b ≡ marked a (middleSlot hash) → c ≡ marked b (highSlot hash) → d ≡ marked c (betweenSlot hash)
-      → d ≡ withMarks sieve hash
+  pub giving-begun : withMarks sieve hash ≡ withNext sieve markCount hash
   unfolding withMarks
-  marks-given a b c d p q r s = s ∙ rw (r, q, p)
+  giving-begun = refl
 
-all-four : (a b c d : Bool) → a ≡ true → b ≡ true → c ≡ true → d ≡ true → (a and b and c and d) ≡ true
+  module _ (left rest : ℕ) where
+    pub marks-missed : hasMarks sieve hash ≡ hasNext sieve left rest → 0 < left → isMarked sieve (rest % 65536) ≡ false → false ≡ hasMarks sieve hash
+    unfolding _and_
+    marks-missed e h n = sym (e ∙ has-next sieve left rest h ∙ rw n)
+
+    pub marks-met : hasMarks sieve hash ≡ hasNext sieve left rest → 0 < left → isMarked sieve (rest % 65536) ≡ true → hasMarks sieve hash ≡ hasNext sieve (left - 1) (rest / 32)
+    unfolding _and_
+    marks-met e h n = e ∙ has-next sieve left rest h ∙ rw n
+
+    pub marks-end : hasMarks sieve hash ≡ hasNext sieve left rest → left ≤ 0 → true ≡ hasMarks sieve hash
+    unfolding hasNext
+    marks-end e z =
+        let none : left ≡ 0 = omega arith in
+        sym (e ∙ rw none)
+
+    pub giving-on : (before after : List ℕ) → withMarks sieve hash ≡ withNext before left rest → 0 < left → after ≡ marked before (rest % 65536)
+        → withMarks sieve hash ≡ withNext after (left - 1) (rest / 32)
+    giving-on before after e h m = e ∙ with-next before left rest h ∙ rw m
+
+    pub giving-end : (given : List ℕ) → withMarks sieve hash ≡ withNext given left rest → left ≤ 0 → given ≡ withMarks sieve hash
+    unfolding withNext
+    giving-end given e z =
+        let none : left ≡ 0 = omega arith in
+        sym (e ∙ rw none)
+
+-- what is marked stays, and what was given is there
+next-length : (left rest : ℕ) (sieve : List ℕ) → length sieve ≡ 1024 → length (withNext sieve left rest) ≡ 1024
+unfolding withNext
+next-length zero rest sieve n = n
+next-length (suc left) rest sieve n = next-length left (rest / 32) (marked sieve (rest % 65536)) (mark-length sieve (rest % 65536) n)
+
+next-keeps : (left rest : ℕ) (sieve : List ℕ) (slot : ℕ) → length sieve ≡ 1024 → isMarked sieve slot ≡ true → isMarked (withNext sieve left rest) slot ≡ true
+unfolding withNext
+next-keeps zero rest sieve slot n e = e
+next-keeps (suc left) rest sieve slot n e =
+    next-keeps left (rest / 32) (marked sieve (rest % 65536)) slot (mark-length sieve (rest % 65536) n) (mark-keeps sieve n (rest % 65536) (omega arith) slot e)
+
+both : (a b : Bool) → a ≡ true → b ≡ true → (a and b) ≡ true
 unfolding _and_
-all-four a b c d p q r s = rw (p, q, r, s)
+both a b p q = rw (p, q)
 
--- the sieve from mark to mark: what is marked stays
+next-own : (left rest : ℕ) (sieve : List ℕ) → length sieve ≡ 1024 → hasNext (withNext sieve left rest) left rest ≡ true
+unfolding hasNext withNext
+next-own zero rest sieve n = refl
+next-own (suc left) rest sieve n =
+    let slot = rest % 65536 in
+    let m = mark-length sieve slot n in
+    both _ _
+    (next-keeps left (rest / 32) (marked sieve slot) slot m (mark-own sieve n slot (omega arith)))
+    (next-own left (rest / 32) (marked sieve slot) m)
+
 module _ (sieve : List ℕ) (n : length sieve ≡ 1024) (hash : ℕ) where
-  abbrev withLow : List ℕ
-  withLow = marked sieve (lowSlot hash)
-
-  abbrev withMiddle : List ℕ
-  withMiddle = marked withLow (middleSlot hash)
-
-  abbrev withHigh : List ℕ
-  withHigh = marked withMiddle (highSlot hash)
-
-  low-length : length withLow ≡ 1024
-  low-length = mark-length sieve (lowSlot hash) n
-
-  middle-length : length withMiddle ≡ 1024
-  middle-length = mark-length withLow (middleSlot hash) low-length
-
-  high-length : length withHigh ≡ 1024
-  high-length = mark-length withMiddle (highSlot hash) middle-length
+  kept-next : (left rest : ℕ) → hasNext sieve left rest ≡ true → hasNext (withMarks sieve hash) left rest ≡ true
+  unfolding hasNext withMarks
+  kept-next zero rest e = refl
+  kept-next (suc left) rest e =
+      both _ _
+      (next-keeps markCount hash sieve (rest % 65536) n (and-left _ _ e))
+      (kept-next left (rest / 32) (and-right _ _ e))
 
   pub marks-length : length (withMarks sieve hash) ≡ 1024
   unfolding withMarks
-  marks-length = mark-length withHigh (betweenSlot hash) high-length
-
-  -- what is marked at a step is marked at the end
-  module _ (slot : ℕ) where
-    after-high : isMarked withHigh slot ≡ true → isMarked (withMarks sieve hash) slot ≡ true
-    unfolding withMarks
-    after-high e = mark-keeps withHigh high-length (betweenSlot hash) (omega arith) slot e
-
-    after-middle : isMarked withMiddle slot ≡ true → isMarked (withMarks sieve hash) slot ≡ true
-    after-middle e = after-high (mark-keeps withMiddle middle-length (highSlot hash) (omega arith) slot e)
-
-    after-low : isMarked withLow slot ≡ true → isMarked (withMarks sieve hash) slot ≡ true
-    after-low e = after-middle (mark-keeps withLow low-length (middleSlot hash) (omega arith) slot e)
-
-    stays : isMarked sieve slot ≡ true → isMarked (withMarks sieve hash) slot ≡ true
-    stays e = after-low (mark-keeps sieve n (lowSlot hash) (omega arith) slot e)
+  marks-length = next-length markCount hash sieve n
 
   pub marks-keep : (other : ℕ) → hasMarks sieve other ≡ true → hasMarks (withMarks sieve hash) other ≡ true
   unfolding hasMarks
-  marks-keep other e =
-      let f = and-right _ _ e in
-      let g = and-right _ _ f in
-      all-four _ _ _ _
-      (stays (lowSlot other) (and-left _ _ e))
-      (stays (middleSlot other) (and-left _ _ f))
-      (stays (highSlot other) (and-left _ _ g))
-      (stays (betweenSlot other) (and-right _ _ g))
+  marks-keep other e = kept-next markCount other e
 
   pub marks-own : hasMarks (withMarks sieve hash) hash ≡ true
   unfolding hasMarks withMarks
-  marks-own =
-      all-four _ _ _ _
-      (after-low (lowSlot hash) (mark-own sieve n (lowSlot hash) (omega arith)))
-      (after-middle (middleSlot hash) (mark-own withLow low-length (middleSlot hash) (omega arith)))
-      (after-high (highSlot hash) (mark-own withMiddle middle-length (highSlot hash) (omega arith)))
-      (mark-own withHigh high-length (betweenSlot hash) (omega arith))
+  marks-own = next-own markCount hash sieve n

@@ -16,7 +16,7 @@ use Rattle.nesting.specs.Records.{cut, recordAt}
 use Rattle.repeats.specs.declared.Repeat.the-variants.{At, Nowhere}
 use Rattle.repeats.specs.declared.Sort.the-variants.{Payments}
 use Rattle.repeats.specs.Repeats.{isOf, repeats}
-use Rattle.repeats.specs.Sieve.{idOf, classOf, inClass, repeatsIn, Tried, Passed}
+use Rattle.repeats.specs.Sieve.{idOf, classOf, inClass, repeatsIn, mostWalks, Tried, Passed}
 use Rattle.repeats.proofs.Firsts.{wantedRepeat, Seeking, seeking-none, seeking-next, seeking-stop, seeking-end}
 
 -- one pass: no repeat of the class before the place
@@ -37,11 +37,11 @@ module _ (classes class first : ℕ) (xs : List ℕ) where
         (λ (q : k < place). c k q)
         (eq-or-lt-of-le (le-of-suc-le-suc (rw (← add-one place) h)))
 
-    pub passed-hit : (best : ℕ) → place < best → r ≡ true → walks ≤ 32 → Passed classes class first xs best place
+    pub passed-hit : (best : ℕ) → place < best → r ≡ true → walks ≤ mostWalks → Passed classes class first xs best place
     unfolding Clean
     passed-hit best h t w = record { within = omega arith; clean = c; found = λ l. sym (e .answer w) ∙ t }
 
-  pub tried-budget : (place : ℕ) (r : Bool) (walks : ℕ) → Tried classes class first xs place r walks → r ≡ false → walks ≤ 32
+  pub tried-budget : (place : ℕ) (r : Bool) (walks : ℕ) → Tried classes class first xs place r walks → r ≡ false → walks ≤ mostWalks
   tried-budget place r walks e t = e .budget t
 
   pub passed-all : (best place : ℕ) → place ≤ best → best ≤ place → Clean classes class first xs place → Passed classes class first xs best best

@@ -42,27 +42,27 @@ marked sieve slot = set sieve (slot / 64) (bitOr (getD sieve (slot / 64) 0) (2 ^
 unfoldable pub isMarked : List ℕ → ℕ → Bool
 isMarked sieve slot = eqb (getD sieve (slot / 64) 0 / 2 ^ (slot % 64) % 2) 1
 
--- the four slots of a hash
-abbrev pub lowSlot : ℕ → ℕ
-lowSlot hash = hash % 65536
+-- so many marks are there, for what is left of a hash: a slot is its lowest 16 bits, and the next one stands five bits higher
+unfoldable pub hasNext : List ℕ → ℕ → ℕ → Bool
+hasNext sieve zero rest = true
+hasNext sieve (suc left) rest = isMarked sieve (rest % 65536) and hasNext sieve left (rest / 32)
 
-abbrev pub middleSlot : ℕ → ℕ
-middleSlot hash = hash / 65536 % 65536
+-- the sieve with these marks
+unfoldable pub withNext : List ℕ → ℕ → ℕ → List ℕ
+withNext sieve zero rest = sieve
+withNext sieve (suc left) rest = withNext (marked sieve (rest % 65536)) left (rest / 32)
 
-abbrev pub highSlot : ℕ → ℕ
-highSlot hash = hash / 4294967296 % 65536
+-- the marks of a hash
+abbrev pub markCount : ℕ
+markCount = 7
 
--- bits of the low and the middle slot: another place in the sieve, and no more hashing
-abbrev pub betweenSlot : ℕ → ℕ
-betweenSlot hash = hash / 256 % 65536
-
--- the hash has its four marks
+-- the hash has all its marks
 unfoldable pub hasMarks : List ℕ → ℕ → Bool
-hasMarks sieve hash = isMarked sieve (lowSlot hash) and isMarked sieve (middleSlot hash) and isMarked sieve (highSlot hash) and isMarked sieve (betweenSlot hash)
+hasMarks sieve hash = hasNext sieve markCount hash
 
--- the sieve with the four marks of a hash
+-- the sieve with all marks of a hash
 unfoldable pub withMarks : List ℕ → ℕ → List ℕ
-withMarks sieve hash = marked (marked (marked (marked sieve (lowSlot hash)) (middleSlot hash)) (highSlot hash)) (betweenSlot hash)
+withMarks sieve hash = withNext sieve markCount hash
 
 -- the class of an ID, by the bits of its hash that choose no slot
 unfoldable pub classOf : ℕ → List ℕ → ℕ
@@ -90,10 +90,14 @@ unfoldable pub repeatsIn : ℕ → ℕ → ℕ → List ℕ → ℕ → Bool
 repeatsIn classes class first bytes place =
     inClass classes class (recordAt first place bytes) and repeats Payments (cut first place bytes) (recordAt first place bytes)
 
+-- the suspects of a batch that are walked
+abbrev pub mostWalks : ℕ
+mostWalks = 16
+
 -- a trial of that record: it is told while the suspects are in the budget, and a pass that goes on is in it
 pub record Tried (classes class first : ℕ) (bytes : List ℕ) (place : ℕ) (stops : Bool) (walks : ℕ) : Type 0 where
-  pub answer : walks ≤ 32 → stops ≡ repeatsIn classes class first bytes place
-  pub budget : stops ≡ false → walks ≤ 32
+  pub answer : walks ≤ mostWalks → stops ≡ repeatsIn classes class first bytes place
+  pub budget : stops ≡ false → walks ≤ mostWalks
 
 -- the first such place before the best, or the best
 pub record Passed (classes class first : ℕ) (bytes : List ℕ) (best place : ℕ) : Type 0 where

@@ -1,5 +1,5 @@
 // The first repeat of a Payment ID where the IDs do not climb: passes over classes of a hash, each with a sieve of 65,536 bits on the
-// stack. The plain walk is made only where all four marks of an ID are set, so that a batch of many payments costs a few passes; the
+// stack. The plain walk is made only where all marks of an ID are set, so that a batch of many payments costs a few passes; the
 // walks have a budget, so that no choice of IDs makes it cost more.
 use crate::Repeat;
 use crate::Sort;
@@ -16,10 +16,13 @@ ghost use Rattle.nesting.specs.Records.{cut, recordAt};
 ghost use Rattle.tables.specs.Tables.{Stands};
 ghost use Rattle.repeats.specs.declared.Sort.the-variants.{Payments};
 ghost use Rattle.repeats.specs.Repeats.{firstRepeat};
-ghost use Rattle.repeats.specs.Sieve.{wordOf, mixed, hashOf, marked, isMarked, hasMarks, withMarks, isSuspect, sifted, AllMarked, Tried, Passed};
+ghost use Rattle.repeats.specs.Sieve.{wordOf, mixed, hashOf, marked, isMarked, hasMarks, withMarks, isSuspect, sifted, AllMarked, mostWalks, Tried, Passed};
 
 // The suspects of a batch that are walked: past them, blocks decide.
-const WALKS: usize = 32;
+const WALKS: usize = 16;
+
+// The marks of a hash: 16 bits of it choose each, five bits apart, and all of them lie below the bits that choose the class.
+const MARKS: usize = 7;
 
 // Whether a pass stops at a record, and the suspects counted after it.
 struct Trial {
@@ -82,29 +85,32 @@ fn mark(sieve: &mut [u64; 1024], slot: usize)
     sieve[at] = sieve[at] | (1u64 << bit);
 }
 
-// The hash has its four marks.
+// The hash has all its marks.
 fn has_marks(sieve: &[u64; 1024], hash: u64) -> bool
     ensures { λ r. ⌜ r ≡ hasMarks (now (sieve .entry)) hash ⌝ }
 {
-    if !is_marked(sieve, (hash % 65536) as usize) {
-        return false;
+    let mut rest = hash;
+    let mut left = MARKS;
+    while 0 < left {
+        if !is_marked(sieve, (rest % 65536) as usize) {
+            return false;
+        }
+        rest = rest / 32;
+        left -= 1;
     }
-    if !is_marked(sieve, (hash / 65536 % 65536) as usize) {
-        return false;
-    }
-    if !is_marked(sieve, (hash / 4294967296 % 65536) as usize) {
-        return false;
-    }
-    is_marked(sieve, (hash / 256 % 65536) as usize)
+    true
 }
 
 fn give_marks(sieve: &mut [u64; 1024], hash: u64)
     ensures { λ r. ⌜ now (sieve .exit) ≡ withMarks (now (sieve .entry)) hash ⌝ }
 {
-    mark(sieve, (hash % 65536) as usize);
-    mark(sieve, (hash / 65536 % 65536) as usize);
-    mark(sieve, (hash / 4294967296 % 65536) as usize);
-    mark(sieve, (hash / 256 % 65536) as usize);
+    let mut rest = hash;
+    let mut left = MARKS;
+    while 0 < left {
+        mark(sieve, (rest % 65536) as usize);
+        rest = rest / 32;
+        left -= 1;
+    }
 }
 
 // Whether the record at the place is a detail of the class whose ID has its marks already: it may repeat one. A detail of the class has
@@ -144,7 +150,7 @@ fn try_at(
     walks: usize,
     sieve: &mut [u64; 1024],
 ) -> Trial
-    requires { ⌜ Stands first place (now part) × (0 < classes) × (walks ≤ 32) × (length (now sieve) ≡ 1024) × AllMarked classes class (now sieve) (cut first place (now part)) ⌝ }
+    requires { ⌜ Stands first place (now part) × (0 < classes) × (walks ≤ mostWalks) × (length (now sieve) ≡ 1024) × AllMarked classes class (now sieve) (cut first place (now part)) ⌝ }
     ensures answer { λ r. ⌜ Tried classes class first (now (part .entry)) place (r .stops) (r .walks) ⌝ }
     ensures size { λ r. ⌜ length (now (sieve .exit)) ≡ 1024 ⌝ }
     ensures after { λ r. ⌜ AllMarked classes class (now (sieve .exit)) (cut first (place + 1) (now (part .entry))) ⌝ }
@@ -166,8 +172,8 @@ fn try_at(
 // The first place before the best at which a detail of the class repeats an earlier one; else the best. A pass that meets too many
 // suspects gives up, and its place says nothing.
 fn pass(part: &[u8], first: usize, classes: u64, class: u64, best: usize, walks: usize) -> Passing
-    requires { ⌜ (length (now part) ≤ 65535 * 850) × (first ≤ 65536) × (best * 850 ≤ length (now part)) × (0 < classes) × (walks ≤ 32) ⌝ }
-    ensures { λ r. ⌜ (r .walks ≤ 32 → Passed classes class first (now (part .entry)) best (r .place)) ⌝ }
+    requires { ⌜ (length (now part) ≤ 65535 * 850) × (first ≤ 65536) × (best * 850 ≤ length (now part)) × (0 < classes) × (walks ≤ mostWalks) ⌝ }
+    ensures { λ r. ⌜ (r .walks ≤ mostWalks → Passed classes class first (now (part .entry)) best (r .place)) ⌝ }
 {
     let mut sieve = [0u64; 1024];
     let mut walks = walks;
@@ -184,7 +190,7 @@ fn pass(part: &[u8], first: usize, classes: u64, class: u64, best: usize, walks:
 }
 
 // The first repeat. A class for 8,192 records: at least every second record of a batch is no detail (01 Nesting), so that some 4,000 IDs
-// share a sieve of 65,536 bits, and a new ID meets four marks of others about once in 400 times at the end of a pass. A batch of more
+// share a sieve of 65,536 bits, and a new ID meets seven marks of others about once in 1,400 times at the end of a pass. A batch of more
 // suspects than the budget has walks, as IDs of one hash make it, is sought by blocks. The first class stands apart: a function that is called in
 // two places keeps a frame of its own, so that the sieve is on the stack only while it is used, and not while a batch is walked.
 pub(crate) fn first_by_classes(part: &[u8], first: usize) -> Repeat

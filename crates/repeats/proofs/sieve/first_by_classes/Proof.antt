@@ -1,13 +1,14 @@
 use Prim.Native.Nat.{_≤_, _<_, _-_, _/_}
 use mathlib.Core.Path.{_≡_}
 use lib.ListN.{length}
+use Rattle.repeats.specs.Sieve.{mostWalks}
 use Rattle.repeats.proofs.Passes.{Best, best-first, best-next, best-hit, best-miss}
 use borrow.Author.Needs.{needs}
 use Rattle.repeats.proofs.sieve.first_by_classes.Statement.{statement}
 use Rattle.repeats.proofs.sieve.first_by_classes.Tie as tie
 
 abbrev Inv-loop : tie.InvT-loop
-Inv-loop part first count classes best₀ walks₀ class₀ best walks class = (class ≤ classes) × (0 < classes) × (walks ≤ 32) × (count ≡ length part / 850) × Best classes first part count best class
+Inv-loop part first count classes best₀ walks₀ class₀ best walks class = (class ≤ classes) × (0 < classes) × (walks ≤ mostWalks) × (count ≡ length part / 850) × Best classes first part count best class
 
 abbrev μ-loop : tie.MeasureT-loop
 μ-loop part first count classes best₀ walks₀ class₀ best walks class = classes - class

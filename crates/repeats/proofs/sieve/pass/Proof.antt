@@ -2,7 +2,7 @@ use Prim.Native.Nat.{_≤_, _-_}
 use mathlib.Core.Path.{_≡_}
 use lib.ListN.{length}
 use Rattle.nesting.specs.Records.{cut}
-use Rattle.repeats.specs.Sieve.{AllMarked}
+use Rattle.repeats.specs.Sieve.{AllMarked, mostWalks}
 use Rattle.repeats.proofs.Classes.{marked-none}
 use Rattle.repeats.proofs.Passes.{Clean, clean-none, clean-next, tried-budget, passed-hit, passed-all}
 use borrow.Author.Needs.{needs}
@@ -10,7 +10,7 @@ use Rattle.repeats.proofs.sieve.pass.Statement.{statement}
 use Rattle.repeats.proofs.sieve.pass.Tie as tie
 
 abbrev Inv-loop : tie.InvT-loop
-Inv-loop part first classes class best walks sieve₀ walks₀ place₀ sieve walks' place = (place ≤ best) × (walks' ≤ 32) × (length sieve ≡ 1024) × AllMarked classes class sieve (cut first place part) × Clean classes class first part place
+Inv-loop part first classes class best walks sieve₀ walks₀ place₀ sieve walks' place = (place ≤ best) × (walks' ≤ mostWalks) × (length sieve ≡ 1024) × AllMarked classes class sieve (cut first place part) × Clean classes class first part place
 
 abbrev μ-loop : tie.MeasureT-loop
 μ-loop part first classes class best walks sieve₀ walks₀ place₀ sieve walks' place = best - place
