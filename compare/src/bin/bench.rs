@@ -1,6 +1,5 @@
 //! The proved judge, the independent judge and a bare scan on the same large files: `bench [RECORDS...]`, default 1,000, 8,000 and 65,535.
-//! Each time is the best of nine rounds for the files (a) to (f), and of three for those made to be slow; in a round every contestant has its
-//! turn, so that all see the same machine.
+//! Each time is the best of nine rounds, in each of which every contestant has its turn, so that all see the same machine.
 
 use std::collections::BTreeSet;
 use std::hint::black_box;
@@ -13,7 +12,6 @@ use compare::random::Random;
 use compare::{judge, layout, proved};
 
 const ROUNDS: usize = 9;
-const HOSTILE_ROUNDS: usize = 3;
 const LOCATIONS: usize = 200_000;
 const SIZES: [usize; 3] = [1_000, 8_000, 65_535];
 const SYMBOL: u128 = 1_234;
@@ -323,7 +321,7 @@ mod sieve {
 
     pub const MIX: u64 = 2_654_435_761;
     /// The suspects of a batch that the judge seeks by plain walks.
-    pub const WALKS: usize = 32;
+    pub const WALKS: usize = 16;
     pub const SLOTS: usize = 1 << 16;
 
     pub fn mix(hash: u64, word: u64) -> u64 {
@@ -352,8 +350,8 @@ mod sieve {
     }
 
     /// The bits that the hash marks in the sieve of its class.
-    pub fn slots(hash: u64) -> [usize; 4] {
-        [0, 16, 32, 8].map(|shift| (hash >> shift) as usize % SLOTS)
+    pub fn slots(hash: u64) -> [usize; 7] {
+        [0, 5, 10, 15, 20, 25, 30].map(|shift| (hash >> shift) as usize % SLOTS)
     }
 }
 
@@ -474,11 +472,11 @@ fn rejected_in(report: &[u8]) -> usize {
 }
 
 /// The best times of the bare scan, the independent judge and the proved one.
-fn measure(name: &str, file: &[u8], book: &[u8], rejected: usize, rounds: usize) -> [Duration; 3] {
+fn measure(name: &str, file: &[u8], book: &[u8], rejected: usize) -> [Duration; 3] {
     let mut reports = [(); 2].map(|()| vec![0; 64 * (1 + file.len() / layout::RECORD / 4)]);
     let [own, theirs] = &mut reports;
     let mut best = [Duration::MAX; 3];
-    for _ in 0..rounds {
+    for _ in 0..ROUNDS {
         let (_, scan) = time(|| bare_scan(file));
         let (answer, independent) = time(|| judge::judge(file, book, theirs));
         let (proved_answer, proved) = time(|| proved::judge(file, book, own));
@@ -620,7 +618,7 @@ fn main() {
                 0,
             ),
             (
-                "(a) with 33 suspects, all at the end and of the last class, 16 bytes shared, descending",
+                "(a) with 17 suspects, all at the end and of the last class, 16 bytes shared, descending",
                 &|| one_batch(records, &ids_with_late_suspects(payments, classes)),
                 0,
             ),
@@ -634,11 +632,11 @@ fn main() {
                 1,
             ),
         ];
-        let ordinary = ordinary.map(|(name, make, book)| (name, make, book, 0, ROUNDS));
-        let hostile = hostile.map(|(name, make, rejected)| (name, make, &small[..], rejected, HOSTILE_ROUNDS));
+        let ordinary = ordinary.map(|(name, make, book)| (name, make, book, 0));
+        let hostile = hostile.map(|(name, make, rejected)| (name, make, &small[..], rejected));
         let mut proved_a = None;
-        for (name, make, book, rejected, rounds) in ordinary.into_iter().chain(hostile) {
-            let times = measure(name, &make(), book, rejected, rounds);
+        for (name, make, book, rejected) in ordinary.into_iter().chain(hostile) {
+            let times = measure(name, &make(), book, rejected);
             print(name, records, times, *proved_a.get_or_insert(times[2]));
         }
     }

@@ -2,10 +2,10 @@
 -- Assumes nothing.
 use mathlib.Core.Path.{_≡_, refl, sym, ap, _∙_}
 use mathlib.Core.Bool.{Bool, true, false, true≢false}
-use mathlib.Core.List.{List, [], _∷_, _++_}
+use mathlib.Core.List.{List, [], _∷_, _++_, tail}
 use Prim.Native.Nat.{ℕ, suc, _+_, _*_, _-_, _/_, _≤_, _<_}
 use native.Mathlib.Omega.{arith}
-use lib.ListN.{length, take, drop}
+use lib.ListN.{length, take, drop, getD}
 use lib.Seq.{take-at, length-take-le}
 use Rattle.record.specs.Choice.{_and_, choose}
 use Rattle.record.specs.Value.{seen}
@@ -32,15 +32,6 @@ use Rattle.batch.proofs.Repeated.{header-none, first-repeat-enough}
 use Rattle.batch.proofs.Adequate.{adequate}
 use Rattle.batch.proofs.Trailers.{to-trailer, records-are}
 
--- a list's first member, and the others
-firstOf : Record → List Record → Record
-firstOf x [] = x
-firstOf x (r ∷ rs) = r
-
-othersOf : List Record → List Record
-othersOf [] = []
-othersOf (r ∷ rs) = rs
-
 -- the bytes of so many records
 abbrev partOf : List ℕ → ℕ → List ℕ
 partOf rest records = take (records * 850) rest
@@ -57,13 +48,11 @@ module _ (rest : List ℕ) (n : ℕ) (b : Batch) (h : BatchOf n rest b) where
       h .whole ∙ ap (λ (k : ℕ). cut n k rest) e
 
   header-is : b .header ≡ seen (lineOf n) (take 850 rest)
-  unfolding firstOf
-  header-is = ap (firstOf []) lines-are
+  header-is = ap (λ (rs : List Record). getD rs 0 []) lines-are
 
   -- the walk ends with the batch
   others-are : toTrailer (cut (n + 1) (length rest / 850 - 1) (drop 850 rest)) ≡ others
-  unfolding othersOf
-  others-are = ap (λ (rs : List Record). toTrailer (othersOf rs)) (sym lines-are) ∙ to-trailer b (h .legal) (h .more)
+  others-are = ap (λ (rs : List Record). toTrailer (tail rs)) (sym lines-are) ∙ to-trailer b (h .legal) (h .more)
 
   module _ (book : Contents) (repeats : Bool) (repeat : Repeat) (w : Walked) (e : w ≡ walkOf book repeats repeat n rest) where
     walk-is : w ≡ walkedOver book repeat (n + 1) (record { state = opening book repeats n (b .header); climbing = noClimb; records = 1 }) others

@@ -49,6 +49,7 @@ struct Seeking {
     again: bool,
 }
 
+// Whether there is a record that repeats.
 fn is_somewhere(repeat: Repeat) -> bool
     ensures { λ r. ⌜ r ≡ isSomewhere repeat ⌝ }
 {

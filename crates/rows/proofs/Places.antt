@@ -1,10 +1,10 @@
 -- Where a batch stands in the bytes of its file: its part, its header, the schedule numbers before it.
 -- Assumes nothing.
 use mathlib.Core.Path.{_≡_, refl, sym, ap, _∙_}
-use mathlib.Core.List.{List, [], _∷_, _++_, map, map-append}
+use mathlib.Core.List.{List, [], _∷_, _++_, map, map-append, tail}
 use Prim.Native.Nat.{ℕ, zero, suc, _+_, _-_, _*_, _/_}
 use native.Mathlib.Omega.{arith}
-use lib.ListN.{length, take, drop, length-take, length-drop, length-append}
+use lib.ListN.{length, take, drop, getD, length-take, length-drop, length-append}
 use lib.Seq.{length-take-le, take-all, take-at, drop-at, take-take}
 use Rattle.record.specs.Choice.{choose}
 use Rattle.record.specs.Fields.{scheduleNumber}
@@ -39,15 +39,6 @@ cut-first n zero m xs = refl
 cut-first n (suc j) m xs =
     let e : suc j + m ≡ suc (j + m) = omega arith in
     rw e (ap (_∷_ (seen (lineOf n) (take 850 xs))) (cut-first (n + 1) j m (drop 850 xs)))
-
--- a list's first member, and the others
-firstOf : List Record → Record
-firstOf [] = []
-firstOf (r ∷ rs) = r
-
-othersOf : List (List ℕ) → List (List ℕ)
-othersOf [] = []
-othersOf (y ∷ ys) = ys
 
 module _ {f : List ℕ} (w : Cuttable f) {place : ℕ} {earlier : List Batch} {b : Batch} (s : Stands f place earlier b) where
   -- the records before the batch, and those behind it
@@ -100,10 +91,10 @@ module _ {f : List ℕ} (w : Cuttable f) {place : ℕ} {earlier : List Batch} {b
 
   -- the first is its header
   header-is : recordAt 1 place f ≡ b .header
-  unfolding recordAt cut firstOf
+  unfolding recordAt cut
   header-is =
       let p : 1 + place ≡ place + 1 = omega arith in
-      rw (p, ← take-take 850 (length (batchLines b) * 850) (drop (place * 850) f) (omega arith)) (ap firstOf part)
+      rw (p, ← take-take 850 (length (batchLines b) * 850) (drop (place * 850) f) (omega arith)) (ap (λ (rs : List Record). getD rs 0 []) part)
 
   -- the schedule numbers before it
   schedules-before : numbers Batches (cut 1 place f) ≡ map scheduleOf earlier
@@ -162,8 +153,7 @@ module _ {f : List ℕ} (w : Cuttable f) {place : ℕ} {earlier : List Batch} {b
 
   -- the numbers behind its own
   pub from-after : (flags : List ℕ) → Batched f place flags → numbersFrom f (place + 1) ≡ map scheduleOf (s .later)
-  unfolding othersOf
-  from-after flags d = ap othersOf (sym (from-next f place d) ∙ from-here)
+  from-after flags d = ap tail (sym (from-next f place d) ∙ from-here)
 
   -- the rest of the file begins with it
   pub batch-of : BatchOf (place + 1) (restOf f place) b
