@@ -202,6 +202,15 @@ module _ (sort : Sort) (first : ℕ) (bytes : List ℕ) (from limit place : ℕ)
               let m = g r in
               omega arith
 
+      pub visit-last : v .next ≤ next
+      visit-last = go (went sort first bytes table count place next v q after a)
+        where
+          go : Went sort first bytes table count place next v after → v .next ≤ next
+          go (other o c n t) = omega arith
+          go (met o k c n t) = omega arith
+          go (entered o k r c n t) = omega arith
+          go (left o k r c n t) = omega arith
+
       -- the table holds the record's number too, unless there was one left out
       module _ (f : from ≤ place) (l : place < limit) where
         same-other : (b : Bool) → ltb place next ≡ b → isOf sort (recordAt first place bytes) ≡ false → numbers sort (between first from (lesser next (place + 1)) bytes) ≡ these
