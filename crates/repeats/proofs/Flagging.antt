@@ -21,7 +21,7 @@ use Rattle.repeats.specs.Blocks.{lesser, between, meets, visited, tableV
 use Rattle.repeats.specs.Schedules.{flagsOf, numbersBefore, numbersFrom}
 use Rattle.repeats.specs.Marking.{zeros, indexAfter, flagAt, marksTo, Marked}
 use Rattle.repeats.proofs.Ranges.{numbers-append, between-join, meets-join, meets-none, numbers-more}
-use Rattle.repeats.proofs.Visits.{Held, held-none, held-next, visit-meets, visit-length, visit-count, visit-next, visit-ahead, visit-last}
+use Rattle.repeats.proofs.Visits.{Filling, filling-none, filling-next, visit-meets, visit-next}
 
 -- a flag among others is set
 set-seam : (xs ys : List ℕ) (y z : ℕ) → set (xs ++ y ∷ ys) (length xs) z ≡ xs ++ z ∷ ys
@@ -348,37 +348,29 @@ module _ (file : List ℕ) where
               }
 
 -- at a place of a block: what the table holds, the index of the next flag and that of the next block's first, and the flags
-pub record InMarking (file : List ℕ) (start from place : ℕ) (table : List ℕ) (count next kept index : ℕ) (flags : List ℕ) : Type 0 where
-  pub table-held : Held Batches 1 file from (length file / 850) place table count next
-  pub size : length table ≡ 4096
-  pub few : count + from ≤ place
+pub record InMarking (room : ℕ) (file : List ℕ) (start from place : ℕ) (table : List ℕ) (count next kept index : ℕ) (flags : List ℕ) : Type 0 where
+  pub filling : Filling room Batches 1 file from (length file / 850) place table count next
   pub within : place ≤ length file / 850
-  pub ahead-of : from < next
-  pub last : next ≤ length file / 850
   pub indexed : index ≡ length (numbers Batches (between 1 start place file))
   pub indexed-next : kept ≡ length (numbers Batches (between 1 start (lesser next place) file))
   pub spread : Spread file start from next place flags
 
 module _ (file : List ℕ) (start from : ℕ) where
-  pub marking-begun : (table flags : List ℕ) (index : ℕ) → length table ≡ 4096 → from < length file / 850 → Marked file start from flags → index ≡ length (numbers Batches (between 1 start from file))
-      → InMarking file start from from table 0 (length file / 850) index index flags
-  marking-begun table flags index n h m i =
+  pub marking-begun : (table flags : List ℕ) (index : ℕ) → ltb 0 (length table) ≡ true → leb (length table) 65536 ≡ true → from < length file / 850 → Marked file start from flags → index ≡ length (numbers Batches (between 1 start from file))
+      → InMarking (length table) file start from from table 0 (length file / 850) index index flags
+  marking-begun table flags index r n h m i =
       let e : length file / 850 - (length file / 850 - from) ≡ from = omega arith in
       record {
-        table-held = held-none Batches 1 file from (length file / 850) table (omega arith) (omega arith);
-        size = n;
-        few = omega arith;
+        filling = filling-none Batches 1 file from (length file / 850) table r n h;
         within = omega arith;
-        ahead-of = h;
-        last = omega arith;
         indexed = i;
         indexed-next = rw e i;
         spread = spread-none file start from flags h m;
       }
 
-  module _ (place : ℕ) (table : List ℕ) (count next kept index : ℕ) (flags : List ℕ) (b : InMarking file start from place table count next kept index flags) where
+  module _ (room place : ℕ) (table : List ℕ) (count next kept index : ℕ) (flags : List ℕ) (b : InMarking room file start from place table count next kept index flags) where
     pub marking-tabled : Tabled 1 (numbering Batches) file table count
-    marking-tabled = b .table-held .holds .tabled
+    marking-tabled = b .filling .table-held .holds .tabled
 
     pub index-few : length file ≤ 65535 * 850 → index < 65536
     index-few u = omega (arith, b .indexed, b .within, headers-few file start place)
@@ -394,7 +386,7 @@ module _ (file : List ℕ) (start from : ℕ) where
         where
           go : (t d : Bool) → leb start place ≡ t → isOf Batches (recordAt 1 place file) ≡ d → index < length flags
           go true true a o =
-              omega (arith, b .indexed, marks-place file start next place, flag-within file start from next place flags (b .spread) h (omega (arith, b .few)) (omega (arith, b .ahead-of)) (leb-true start place a) o)
+              omega (arith, b .indexed, marks-place file start next place, flag-within file start from next place flags (b .spread) h (omega (arith, b .filling .few)) (omega (arith, b .filling .ahead)) (leb-true start place a) o)
           go true false a o = let z : after ≡ index = rw (a, o) at e in absurd (omega arith)
           go false d a o = let z : after ≡ index = rw a at e in absurd (omega arith)
 
@@ -402,10 +394,10 @@ module _ (file : List ℕ) (start from : ℕ) where
           (after : ℕ) (e : after ≡ indexAfter file start place index) (flags' : List ℕ) (w : flags' ≡ choose (ltb index after) (choose (v .known) (set flags index 1) flags) flags)
           (kept' : ℕ) (g : kept' ≡ choose (ltb place (v .next)) after kept) where
         told-known : v .known ≡ meets Batches 1 file from (lesser next place) place
-        told-known = visit-meets Batches 1 file from (length file / 850) place table count next (b .table-held) marking-stands v q
+        told-known = visit-meets room Batches 1 file from (length file / 850) place table count next (b .filling) marking-stands v q
 
         next-same : (k : ℕ) → k ≤ place → lesser (v .next) k ≡ lesser next k
-        next-same = visit-next Batches 1 file from (length file / 850) place table count next (b .table-held) marking-stands v q table' t
+        next-same = visit-next room Batches 1 file from (length file / 850) place table count next (b .filling) marking-stands v q table' t
 
         spread-next : Spread file start from (v .next) (place + 1) flags'
         unfolding choose
@@ -415,10 +407,10 @@ module _ (file : List ℕ) (start from : ℕ) where
             here = h
 
             last : from ≤ place
-            last = omega (arith, b .few)
+            last = omega (arith, b .filling .few)
 
             front : from ≤ next
-            front = omega (arith, b .ahead-of)
+            front = omega (arith, b .filling .ahead)
 
             kept-flags : after ≡ index → flags' ≡ flags
             kept-flags z = w ∙ rw (le-ltb index after (omega arith))
@@ -443,15 +435,11 @@ module _ (file : List ℕ) (start from : ℕ) where
             let x : v .next - (v .next - (place + 1)) ≡ v .next - (v .next - place) = omega (arith, ltb-false place (v .next) i) in
             g ∙ rw (i, x, next-same place (omega arith)) (b .indexed-next)
 
-        pub marking-next : InMarking file start from (place + 1) table' (v .count) (v .next) kept' after flags'
+        pub marking-next : InMarking room file start from (place + 1) table' (v .count) (v .next) kept' after flags'
         marking-next =
             record {
-              table-held = held-next Batches 1 file from (length file / 850) place table count next (b .table-held) marking-stands v q table' t (omega (arith, b .few)) h;
-              size = visit-length Batches 1 file from (length file / 850) place table count next (b .table-held) marking-stands v q table' t ∙ b .size;
-              few = omega (arith, b .few, visit-count Batches 1 file from (length file / 850) place table count next (b .table-held) marking-stands v q table' t);
+              filling = filling-next room Batches 1 file from (length file / 850) place table count next (b .filling) marking-stands v q table' t h;
               within = omega arith;
-              ahead-of = visit-ahead Batches 1 file from (length file / 850) place table count next (b .table-held) marking-stands v q table' t (b .ahead-of) (λ l. omega (arith, b .few, b .size));
-              last = omega (arith, b .last, visit-last Batches 1 file from (length file / 850) place table count next (b .table-held) marking-stands v q table' t);
               indexed = index-after;
               indexed-next = kept-next _ refl;
               spread = spread-next;
@@ -475,5 +463,5 @@ module _ (file : List ℕ) (start from : ℕ) where
 
     pub kept-end : length file / 850 ≤ place → kept ≡ length (numbers Batches (between 1 start next file))
     kept-end h =
-        let e : next - (next - place) ≡ next = omega (arith, b .last) in
+        let e : next - (next - place) ≡ next = omega (arith, b .filling .last) in
         b .indexed-next ∙ rw e

@@ -1,4 +1,5 @@
 use Prim.Native.Nat.{_-_}
+use lib.ListN.{length}
 use Rattle.repeats.proofs.Flagging.{InMarking, marking-begun, marking-tabled, index-few, marking-stands, flag-fits, marking-next, marking-length, marking-end, kept-end}
 use borrow.Author.Needs.{needs}
 use Rattle.repeats.proofs.flags.mark_block.Statement.{statement}
@@ -6,7 +7,7 @@ use Rattle.repeats.proofs.flags.mark_block.Tie as tie
 
 abbrev Inv-loop : tie.InvT-loop
 Inv-loop file start from index flags₀ records table₀ count₀ next₀ kept₀ flag₀ place₀ flags table count next kept flag place =
-    InMarking file start from place table count next kept flag flags
+    InMarking (length table₀) file start from place table count next kept flag flags
 
 abbrev μ-loop : tie.MeasureT-loop
 μ-loop file start from index flags₀ records table₀ count₀ next₀ kept₀ flag₀ place₀ flags table count next kept flag place = records - place
