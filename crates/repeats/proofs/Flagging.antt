@@ -11,8 +11,9 @@ use lib.ListN.{length, drop, set, getD, length-append, length-drop, drop-of-leng
 use lib.Seq.{drop-at, drop-cons}
 use Rattle.record.specs.Choice.{_and_, _or_, choose}
 use Rattle.record.specs.Value.{held}
-use Rattle.record.proofs.Chain.{and-false}
+use Rattle.nesting.specs.Division.{Record}
 use Rattle.nesting.specs.Records.{cut, recordAt}
+use Rattle.nesting.proofs.Cuts.{cut-length}
 use Rattle.tables.specs.Tables.{Stands, Tabled, member}
 use Rattle.repeats.specs.declared.Sort.the-variants.{Batches}
 use Rattle.repeats.specs.declared.blocks.Visited.{Visited}
@@ -27,6 +28,11 @@ use Rattle.repeats.proofs.Visits.{Filling, filling-none, filling-next, 
 set-seam : (xs ys : List ℕ) (y z : ℕ) → set (xs ++ y ∷ ys) (length xs) z ≡ xs ++ z ∷ ys
 set-seam [] ys y z = refl
 set-seam (x ∷ xs) ys y z = ap (_∷_ x) (set-seam xs ys y z)
+
+set-told : (known : Bool) (xs ys : List ℕ) (y : ℕ) → choose known (set (xs ++ y ∷ ys) (length xs) 1) (xs ++ y ∷ ys) ≡ xs ++ choose known 1 y ∷ ys
+unfolding choose
+set-told true xs ys y = set-seam xs ys y 1
+set-told false xs ys y = refl
 
 -- what follows a beginning
 cancel : (xs ys zs : List ℕ) → xs ++ ys ≡ xs ++ zs → ys ≡ zs
@@ -89,6 +95,22 @@ unfolding flagsOf
 flags-snoc earlier [] y = rw (append-nil earlier)
 flags-snoc earlier (x ∷ later) y = ap (_∷_ (choose (member x earlier) 1 0)) (flags-snoc (earlier ++ x ∷ []) later y ∙ rw (append-assoc earlier (x ∷ []) later))
 
+-- one more, or none
+length-more : {A : Type 0} (t : Bool) (xs : List A) (x : A) → length (xs ++ choose t (x ∷ []) []) ≡ choose t (length xs + 1) (length xs)
+unfolding choose
+length-more true xs x = length-append xs (x ∷ [])
+length-more false xs x = ap length (append-nil xs)
+
+-- there are no more numbers than records
+numbers-few : (rs : List Record) → length (numbers Batches rs) ≤ length rs
+unfolding numbers choose
+numbers-few [] = omega arith
+numbers-few (r ∷ rs) = go (isOf Batches r) (numbers-few rs)
+  where
+    go : (t : Bool) → length (numbers Batches rs) ≤ length rs → length (choose t (held r (numbering Batches) ∷ numbers Batches rs) (numbers Batches rs)) ≤ suc (length rs)
+    go true h = omega arith
+    go false h = omega arith
+
 module _ (file : List ℕ) where
   -- the numbers from the start on, up to a place
   abbrev ahead : ℕ → ℕ → List (List ℕ)
@@ -101,28 +123,13 @@ module _ (file : List ℕ) where
       rw e
 
   -- the index of a record's flag is the number of headers before it
-  pub index-next : (start place index after : ℕ) → index ≡ length (ahead start place) → after ≡ indexAfter file start place index → after ≡ length (ahead start (place + 1))
+  index-next : (start place index after : ℕ) → index ≡ length (ahead start place) → after ≡ indexAfter file start place index → after ≡ length (ahead start (place + 1))
   unfolding choose
-  index-next start place index after i e = go (leb start place) (isOf Batches (recordAt 1 place file)) refl refl
+  index-next start place index after i e = go (leb start place) refl
     where
-      go : (t d : Bool) → leb start place ≡ t → isOf Batches (recordAt 1 place file) ≡ d → after ≡ length (ahead start (place + 1))
-      go true true a o = e ∙ rw (a, o, numbers-more Batches 1 file start place (leb-true start place a), o, length-append) (omega (arith, i))
-      go true false a o = e ∙ rw (a, o, numbers-more Batches 1 file start place (leb-true start place a), o, append-nil (ahead start place)) i
-      go false d a o = e ∙ rw (a, ahead-none start (place + 1) (omega (arith, leb-false start place a))) (i ∙ ap length (ahead-none start place (omega (arith, leb-false start place a))))
-
-  -- there are no more numbers than records
-  pub headers-few : (start place : ℕ) → length (ahead start place) ≤ place
-  unfolding choose
-  headers-few start zero = rw (ahead-none start 0 (omega arith)) (omega arith)
-  headers-few start (suc place) =
-      let e = index-next start place (length (ahead start place)) _ refl refl in
-      let n : place + 1 ≡ suc place = omega arith in
-      rw (← n) (rw (← e) (go (leb start place) (isOf Batches (recordAt 1 place file)) (headers-few start place)))
-    where
-      go : (t d : Bool) → length (ahead start place) ≤ place → choose t (choose d (length (ahead start place) + 1) (length (ahead start place))) (length (ahead start place)) ≤ place + 1
-      go true true h = omega arith
-      go true false h = omega arith
-      go false d h = omega arith
+      go : (t : Bool) → leb start place ≡ t → after ≡ length (ahead start (place + 1))
+      go true a = e ∙ rw (a, numbers-more Batches 1 file start place (leb-true start place a), length-more, i)
+      go false a = e ∙ rw (a, ahead-none start (place + 1) (omega (arith, leb-false start place a))) (i ∙ ap length (ahead-none start place (omega (arith, leb-false start place a))))
 
   pub index-none : (start : ℕ) → 0 ≡ length (ahead start 0)
   index-none start = sym (ap length (ahead-none start 0 (omega arith)))
@@ -130,16 +137,11 @@ module _ (file : List ℕ) where
   module _ (start : ℕ) where
     -- there is a flag for each number
     marks-length : (limit n : ℕ) → length (marksTo file limit start n) ≡ length (ahead start (start + n))
-    unfolding marksTo choose
+    unfolding marksTo
     marks-length limit zero = sym (ap length (ahead-none start (start + 0) (omega arith)))
     marks-length limit (suc n) =
         let e : start + suc n ≡ start + n + 1 = omega arith in
-        rw (e, numbers-more Batches 1 file start (start + n) (omega arith)) (go (isOf Batches (recordAt 1 (start + n) file)) (marks-length limit n))
-      where
-        go : (d : Bool) → length (marksTo file limit start n) ≡ length (ahead start (start + n))
-            → length (marksTo file limit start n ++ choose d (flagAt file limit (start + n) ∷ []) []) ≡ length (ahead start (start + n) ++ choose d (held (recordAt 1 (start + n) file) (numbering Batches) ∷ []) [])
-        go true h = rw (length-append, length-append, h)
-        go false h = rw (length-append, length-append, h)
+        rw (e, numbers-more Batches 1 file start (start + n) (omega arith)) (simp length-more (rw (marks-length limit n)))
 
     marks-place : (limit place : ℕ) → length (marksTo file limit start (place - start)) ≡ length (ahead start place)
     unfolding marksTo numbers cut
@@ -172,6 +174,11 @@ module _ (file : List ℕ) where
         let e : k + suc j ≡ suc (k + j) = omega arith in
         let x = choose (isOf Batches (recordAt 1 (start + (k + j)) file)) (flagAt file l (start + (k + j)) ∷ []) [] in
         (r .0 ++ x, rw (e, r .1) (append-assoc (marksTo file l start k) (r .0) x))
+
+    marks-rest : (l k : ℕ) → k ≤ length file / 850 - start → (rest : List ℕ) × (marksTo file l start (length file / 850 - start) ≡ marksTo file l start k ++ rest)
+    marks-rest l k h =
+        let e : k + (length file / 850 - start - k) ≡ length file / 850 - start = omega arith in
+        rw e at (marks-split l k (length file / 850 - start - k))
 
     -- one record more
     marks-more : (l place : ℕ) → start ≤ place → marksTo file l start (place + 1 - start) ≡ marksTo file l start (place - start) ++ choose (isOf Batches (recordAt 1 place file)) (flagAt file l place ∷ []) []
@@ -257,13 +264,9 @@ module _ (file : List ℕ) where
 
     spread-none : (from : ℕ) (flags : List ℕ) → from < length file / 850 → Marked file start from flags → Spread from (length file / 850) from flags
     spread-none from flags h e =
-        let k = from - start in
-        let j = length file / 850 - start - k in
-        let f : k + j ≡ length file / 850 - start = omega arith in
-        let r = marks-split from k j in
-        let t : marksTo file from start (length file / 850 - start) ≡ marksTo file from start k ++ r .0 = ap (marksTo file from start) (sym f) ∙ r .1 in
-        let m = marks-same (length file / 850) from k (λ i a q. let u = up-to start from i a q in lesser-same (length file / 850) from i (omega arith) u) in
-        record { rest = r .0; here = e ∙ t ∙ rw m; there = t }
+        let r = marks-rest from (from - start) (omega arith) in
+        let m = marks-same (length file / 850) from (from - start) (λ i a q. let u = up-to start from i a q in lesser-same (length file / 850) from i (omega arith) u) in
+        record { rest = r .0; here = e ∙ r .1 ∙ rw m; there = r .1 }
 
     module _ (from next place : ℕ) (flags : List ℕ) (s : Spread from next place flags) (h : place < length file / 850) (f : from ≤ place) (g : from ≤ next) where
       -- a record without a flag
@@ -276,23 +279,24 @@ module _ (file : List ℕ) where
           }
 
       module _ (l : start ≤ place) (o : isOf Batches (recordAt 1 place file) ≡ true) where
+        abbrev before : ℕ → List ℕ
+        before limit = marksTo file limit start (place - start)
+
         -- the flags from the place on
-        behind : (rest : List ℕ) × (s .rest ≡ flagAt file from place ∷ rest)
+        behind : (rest : List ℕ) × (s .rest ≡ flagAt file from place ∷ rest) × (marksTo file from start (length file / 850 - start) ≡ marksTo file from start (place + 1 - start) ++ rest)
         unfolding choose
         behind =
-            let k = place + 1 - start in
-            let j = length file / 850 - start - k in
-            let e : k + j ≡ length file / 850 - start = omega arith in
-            let r = marks-split from k j in
-            let a : marksTo file from start (length file / 850 - start) ≡ marksTo file from start k ++ r .0 = ap (marksTo file from start) (sym e) ∙ r .1 in
-            let b : marksTo file from start k ≡ marksTo file from start (place - start) ++ flagAt file from place ∷ [] = marks-more from place l ∙ rw o in
-            let c : marksTo file from start (place - start) ++ s .rest ≡ marksTo file from start (place - start) ++ flagAt file from place ∷ r .0 =
-            sym (s .there) ∙ a ∙ rw b (append-assoc (marksTo file from start (place - start)) (flagAt file from place ∷ []) (r .0)) in
-            (r .0, cancel (marksTo file from start (place - start)) (s .rest) (flagAt file from place ∷ r .0) c)
+            let r = marks-rest from (place + 1 - start) (omega arith) in
+            let m : marksTo file from start (place + 1 - start) ≡ before from ++ flagAt file from place ∷ [] = marks-more from place l ∙ rw o in
+            let c : before from ++ s .rest ≡ before from ++ flagAt file from place ∷ r .0 = sym (s .there) ∙ r .1 ∙ rw m (append-assoc (before from) (flagAt file from place ∷ []) (r .0)) in
+            (r .0, cancel (before from) (s .rest) (flagAt file from place ∷ r .0) c, r .1)
+
+        whole : flags ≡ before next ++ flagAt file from place ∷ behind .0
+        whole = s .here ∙ ap (λ (xs : List ℕ). before next ++ xs) (behind .1)
 
         -- so there is one
-        flag-within : length (marksTo file next start (place - start)) < length flags
-        flag-within = rw (s .here, behind .1, length-append) (omega arith)
+        flag-within : length (before next) < length flags
+        flag-within = rw (whole, length-append) (omega arith)
 
         module _ (after : ℕ) (n : (k : ℕ) → k ≤ place → lesser after k ≡ lesser next k) (known : Bool) (q : known ≡ meets Batches 1 file from (lesser next place) place) where
           -- what the block adds to it
@@ -310,41 +314,18 @@ module _ (file : List ℕ) where
               either false true = refl
               either false false = refl
 
-          marks-after : marksTo file after start (place + 1 - start) ≡ marksTo file next start (place - start) ++ choose known 1 (flagAt file from place) ∷ []
+          marks-after : marksTo file after start (place + 1 - start) ≡ before next ++ choose known 1 (flagAt file from place) ∷ []
           unfolding choose
           marks-after = marks-more after place l ∙ rw (o, flag-joined, marks-same after next (place - start) (λ k a q. n k (omega arith)))
 
-          -- the flag with what the block adds
-          told : (index : ℕ) → index ≡ length (marksTo file next start (place - start)) → choose known (set flags index 1) flags ≡ marksTo file after start (place + 1 - start) ++ behind .0
-          unfolding choose
-          told index i = go known refl
-            where
-              whole : flags ≡ (marksTo file next start (place - start)) ++ flagAt file from place ∷ behind .0
-              whole = s .here ∙ ap (λ (xs : List ℕ). (marksTo file next start (place - start)) ++ xs) (behind .1)
-
-              marked : (b : Bool) → known ≡ b → marksTo file after start (place + 1 - start) ++ behind .0 ≡ marksTo file next start (place - start) ++ choose b 1 (flagAt file from place) ∷ behind .0
-              marked b e =
-                  ap (λ (xs : List ℕ). xs ++ behind .0) (marks-after ∙ ap (λ (c : Bool). marksTo file next start (place - start) ++ choose c 1 (flagAt file from place) ∷ []) e)
-                  ∙ append-assoc (marksTo file next start (place - start)) (choose b 1 (flagAt file from place) ∷ []) (behind .0)
-
-              go : (b : Bool) → known ≡ b → choose b (set flags index 1) flags ≡ marksTo file after start (place + 1 - start) ++ behind .0
-              go true e =
-                  ap (λ (xs : List ℕ). set xs index 1) whole
-                  ∙ ap (λ (n : ℕ). set (marksTo file next start (place - start) ++ flagAt file from place ∷ behind .0) n 1) i
-                  ∙ set-seam (marksTo file next start (place - start)) (behind .0) (flagAt file from place) 1 ∙ sym (marked true e)
-              go false e = whole ∙ sym (marked false e)
-
-          spread-set : (index : ℕ) → index ≡ length (marksTo file next start (place - start)) → Spread from after (place + 1) (choose known (set flags index 1) flags)
-          unfolding choose
+          spread-set : (index : ℕ) → index ≡ length (before next) → Spread from after (place + 1) (choose known (set flags index 1) flags)
           spread-set index i =
-              let m : marksTo file from start (place + 1 - start) ≡ marksTo file from start (place - start) ++ flagAt file from place ∷ [] = marks-more from place l ∙ rw o in
               record {
                 rest = behind .0;
-                here = told index i;
-                there =
-                    s .there ∙ ap (λ (xs : List ℕ). marksTo file from start (place - start) ++ xs) (behind .1)
-                    ∙ sym (append-assoc (marksTo file from start (place - start)) (flagAt file from place ∷ []) (behind .0))
-                    ∙ ap (λ (xs : List ℕ). xs ++ behind .0) (sym m);
+                here =
+                    ap (λ (xs : List ℕ). choose known (set xs index 1) xs) whole
+                    ∙ rw (i, marks-after) (set-told known (before next) (behind .0) (flagAt file from place) ∙ sym (append-assoc (before next) (choose known 1 (flagAt file from place) ∷ []) (behind .0)));
+                there = behind .2;
               }
 
 -- at a place of a block: what the table holds, the index of the next flag and that of the next block's first, and the flags
@@ -373,7 +354,7 @@ module _ (file : List ℕ) (start from : ℕ) where
     marking-tabled = b .filling .table-held .holds .tabled
 
     pub index-few : length file ≤ 65535 * 850 → index < 65536
-    index-few u = omega (arith, b .indexed, b .within, headers-few file start place)
+    index-few u = omega (arith, b .indexed, b .within, numbers-few (between 1 start place file), cut-length (1 + start) (place - start) (drop (start * 850) file))
 
     module _ (h : place < length file / 850) (u : length file ≤ 65535 * 850) where
       pub marking-stands : Stands 1 place file

@@ -202,32 +202,23 @@ module _ (room : ℕ) (sort : Sort) (first : ℕ) (bytes : List ℕ) (from limit
           go (left o k r c n t) = omega (arith, count-full first (numbering sort) bytes table count these place (h .holds) s _ _ refl refl k r)
 
       -- what is left out is so from here on
-      pub visit-next : (k : ℕ) → k ≤ place → lesser (v .next) k ≡ lesser next k
-      visit-next k m = go (went sort first bytes table count place next v q after a)
+      next-by : (X : Type 0) → (v .next ≡ next → X) → (length table ≤ count → v .next ≡ lesser next place → X) → X
+      next-by X same less = go (went sort first bytes table count place next v q after a)
         where
-          go : Went sort first bytes table count place next v after → lesser (v .next) k ≡ lesser next k
-          go (other o c n t) = omega arith
-          go (met o i c n t) = omega arith
-          go (entered o i r c n t) = omega arith
-          go (left o i r c n t) = omega arith
+          go : Went sort first bytes table count place next v after → X
+          go (other o c n t) = same n
+          go (met o k c n t) = same n
+          go (entered o k r c n t) = same n
+          go (left o k r c n t) = less r n
 
-      visit-ahead : from < v .next
-      visit-ahead = go (went sort first bytes table count place next v q after a)
-        where
-          go : Went sort first bytes table count place next v after → from < v .next
-          go (other o c n t) = omega (arith, b .ahead)
-          go (met o k c n t) = omega (arith, b .ahead)
-          go (entered o k r c n t) = omega (arith, b .ahead)
-          go (left o k r c n t) = omega (arith, b .ahead, b .few, b .size, b .roomy)
+      pub visit-next : (k : ℕ) → k ≤ place → lesser (v .next) k ≡ lesser next k
+      visit-next k m = next-by (lesser (v .next) k ≡ lesser next k) (λ e. omega arith) (λ r e. omega arith)
 
       visit-last : v .next ≤ next
-      visit-last = go (went sort first bytes table count place next v q after a)
-        where
-          go : Went sort first bytes table count place next v after → v .next ≤ next
-          go (other o c n t) = omega arith
-          go (met o k c n t) = omega arith
-          go (entered o k r c n t) = omega arith
-          go (left o k r c n t) = omega arith
+      visit-last = next-by (v .next ≤ next) (λ e. omega arith) (λ r e. omega arith)
+
+      visit-ahead : from < v .next
+      visit-ahead = next-by (from < v .next) (λ e. omega (arith, b .ahead)) (λ r e. omega (arith, b .ahead, b .few, b .size, b .roomy))
 
       -- the table holds the record's number too, unless there was one left out
       module _ (l : place < limit) where

@@ -70,7 +70,7 @@ fn set_flag(flags: &mut [u8], index: usize, after: usize, known: bool)
     }
 }
 
-// One block of headers, from a place on, whose first has the flag at the index: every flag is set whose batch has the number of an earlier one in
+// One block of headers, from a place and the index of the first flag there on: every flag is set whose batch has the number of an earlier one in
 // the block. The next block begins at the first header that this one has no room for, or at the number of records.
 fn mark_block(file: &[u8], start: usize, from: usize, index: usize, flags: &mut [u8]) -> NextBlock
     requires { ⌜ (length (now file) ≤ 65535 * 850) × (from < length (now file) / 850) × Marked (now file) start from (now flags) × (index ≡ length (numbers Batches (between 1 start from (now file)))) ⌝ }
