@@ -14,7 +14,7 @@ use Rattle.record.specs.Value.{held}
 use Rattle.nesting.specs.Division.{Record}
 use Rattle.nesting.specs.Records.{cut, recordAt}
 use Rattle.nesting.proofs.Cuts.{cut-length}
-use Rattle.tables.specs.Tables.{Stands, Tabled, member}
+use Rattle.tables.specs.Tables.{Stands, member}
 use Rattle.repeats.specs.declared.Sort.the-variants.{Batches}
 use Rattle.repeats.specs.declared.blocks.Visited.{Visited}
 use Rattle.repeats.specs.Repeats.{numbering, isOf, numbers}
@@ -350,9 +350,6 @@ module _ (file : List ℕ) (start from : ℕ) where
       }
 
   module _ (room place : ℕ) (table : List ℕ) (count next kept index : ℕ) (flags : List ℕ) (b : InMarking room file start from place table count next kept index flags) where
-    pub marking-tabled : Tabled 1 (numbering Batches) file table count
-    marking-tabled = b .filling .table-held .holds .tabled
-
     pub index-few : length file ≤ 65535 * 850 → index < 65536
     index-few u = omega (arith, b .indexed, b .within, numbers-few (between 1 start place file), cut-length (1 + start) (place - start) (drop (start * 850) file))
 

@@ -13,11 +13,11 @@ use lib.Dec.{leb, ltb}
 use lib.ListN.{length}
 use Rattle.record.specs.Choice.{_or_}
 use Rattle.nesting.specs.Records.{cut, recordAt}
-use Rattle.tables.specs.Tables.{Stands, Tabled}
+use Rattle.tables.specs.Tables.{Stands}
 use Rattle.repeats.specs.declared.Repeat.the-variants.{At, Nowhere}
 use Rattle.repeats.specs.declared.Sort.the-variants.{Payments}
 use Rattle.repeats.specs.declared.blocks.Visited.{Visited}
-use Rattle.repeats.specs.Repeats.{numbering, repeats}
+use Rattle.repeats.specs.Repeats.{repeats}
 use Rattle.repeats.specs.Blocks.{lesser, meets, visited, tableVisited, Blocked}
 use Rattle.repeats.proofs.Firsts.{wantedRepeat, seeking-stop, seeking-end}
 use Rattle.repeats.proofs.Passes.{isRepeat, seek}
@@ -39,9 +39,6 @@ module _ (first : ℕ) (bytes : List ℕ) (from best : ℕ) where
   block-begun table r n h = record { filling = filling-none Payments first bytes from best table r n h; clean = λ k l m. absurd (omega arith) }
 
   module _ (room place : ℕ) (table : List ℕ) (count next : ℕ) (b : InBlock room first bytes from best place table count next) where
-    pub block-tabled : Tabled first (numbering Payments) bytes table count
-    block-tabled = b .filling .table-held .holds .tabled
-
     -- a number of the block is an earlier one
     repeated : meets Payments first bytes from (lesser next place) place ≡ true → repeats Payments (cut first place bytes) (recordAt first place bytes) ≡ true
     repeated t =

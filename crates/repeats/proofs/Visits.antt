@@ -141,6 +141,10 @@ filling-none sort first bytes from limit table r n l =
       last = omega arith;
     }
 
+pub filling-tabled : (room : ℕ) (sort : Sort) (first : ℕ) (bytes : List ℕ) (from limit place : ℕ) (table : List ℕ) (count next : ℕ) → Filling room sort first bytes from limit place table count next
+    → Tabled first (numbering sort) bytes table count
+filling-tabled room sort first bytes from limit place table count next b = b .table-held .holds .tabled
+
 -- a number that is there already changes nothing
 again : (x y : List ℕ) (ys : List (List ℕ)) (b m : Bool) → alike x y ≡ b → member y ys ≡ m → member x ys ≡ true → member y ys ≡ member y (ys ++ x ∷ [])
 unfolding member _or_

@@ -1,6 +1,7 @@
 use Prim.Native.Nat.{_≤_, _-_}
 use lib.ListN.{length}
-use Rattle.repeats.proofs.Sought.{InBlock, block-begun, block-tabled, block-hit, block-next, block-end}
+use Rattle.repeats.proofs.Sought.{InBlock, block-begun, block-hit, block-next, block-end}
+use Rattle.repeats.proofs.Visits.{filling-tabled}
 use borrow.Author.Needs.{needs}
 use Rattle.repeats.proofs.blocks.block.Statement.{statement}
 use Rattle.repeats.proofs.blocks.block.Tie as tie
@@ -18,7 +19,7 @@ slice-aggregate-visit : tie.Need-slice-aggregate-visit Inv-loop μ-loop
 slice-aggregate-visit c = search needs
 
 visit-requires : tie.Need-visit-requires Inv-loop μ-loop
-visit-requires c κs = search (needs, block-tabled)
+visit-requires c κs = search (needs, filling-tabled)
 
 returns : tie.Need-returns Inv-loop μ-loop
 returns c = search (needs, block-hit)

@@ -1,6 +1,7 @@
 use Prim.Native.Nat.{_-_}
 use lib.ListN.{length}
-use Rattle.repeats.proofs.Flagging.{InMarking, marking-begun, marking-tabled, index-few, marking-stands, flag-fits, marking-next, marking-length, marking-end, kept-end}
+use Rattle.repeats.proofs.Flagging.{InMarking, marking-begun, index-few, marking-stands, flag-fits, marking-next, marking-length, marking-end, kept-end}
+use Rattle.repeats.proofs.Visits.{filling-tabled}
 use borrow.Author.Needs.{needs}
 use Rattle.repeats.proofs.flags.mark_block.Statement.{statement}
 use Rattle.repeats.proofs.flags.mark_block.Tie as tie
@@ -19,7 +20,7 @@ slice-aggregate-visit : tie.Need-slice-aggregate-visit Inv-loop μ-loop
 slice-aggregate-visit c = search needs
 
 visit-requires : tie.Need-visit-requires Inv-loop μ-loop
-visit-requires c κs = search (needs, marking-tabled)
+visit-requires c κs = search (needs, filling-tabled)
 
 index-after-requires : tie.Need-index-after-requires Inv-loop μ-loop
 index-after-requires c κs = search (needs, index-few, marking-stands)
