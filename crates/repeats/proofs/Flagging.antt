@@ -5,28 +5,34 @@ use mathlib.Core.Bool.{Bool, true, false}
 use mathlib.Core.List.{List, [], _∷_, _++_, append-nil, append-assoc}
 use Prim.Native.Nat.{ℕ, zero, suc, _+_, _-_, _*_, _/_, _≤_, _<_}
 use native.Mathlib.Omega.{arith}
-use borrow.Author.Tests.{leb-true, leb-false, ltb-true, ltb-false}
+use borrow.Author.Tests.{leb-true, leb-false, ltb-true, ltb-false, lt-ltb, le-ltb}
 use lib.Dec.{leb, ltb}
 use lib.ListN.{length, drop, set, getD, length-append, length-drop, drop-of-length-le}
 use lib.Seq.{drop-at, drop-cons}
 use Rattle.record.specs.Choice.{_and_, _or_, choose}
 use Rattle.record.specs.Value.{held}
-use Rattle.record.proofs.Chain.{and-false}
+use Rattle.nesting.specs.Division.{Record}
 use Rattle.nesting.specs.Records.{cut, recordAt}
-use Rattle.tables.specs.Tables.{Stands, Tabled, member}
+use Rattle.nesting.proofs.Cuts.{cut-length}
+use Rattle.tables.specs.Tables.{Stands, member}
 use Rattle.repeats.specs.declared.Sort.the-variants.{Batches}
 use Rattle.repeats.specs.declared.blocks.Visited.{Visited}
 use Rattle.repeats.specs.Repeats.{numbering, isOf, numbers}
 use Rattle.repeats.specs.Blocks.{lesser, between, meets, visited, tableVisited}
 use Rattle.repeats.specs.Schedules.{flagsOf, numbersBefore, numbersFrom}
-use Rattle.repeats.specs.Marking.{zeros, isTarget, flagAt, marksTo, Marked}
+use Rattle.repeats.specs.Marking.{zeros, indexAfter, flagAt, marksTo, Marked}
 use Rattle.repeats.proofs.Ranges.{numbers-append, between-join, meets-join, meets-none, numbers-more}
-use Rattle.repeats.proofs.Visits.{Held, held-none, held-next, visit-meets, visit-length, visit-count, visit-next, visit-ahead}
+use Rattle.repeats.proofs.Visits.{Filling, filling-none, filling-next, visit-meets, visit-next}
 
 -- a flag among others is set
 set-seam : (xs ys : List ℕ) (y z : ℕ) → set (xs ++ y ∷ ys) (length xs) z ≡ xs ++ z ∷ ys
 set-seam [] ys y z = refl
 set-seam (x ∷ xs) ys y z = ap (_∷_ x) (set-seam xs ys y z)
+
+set-told : (known : Bool) (xs ys : List ℕ) (y : ℕ) → choose known (set (xs ++ y ∷ ys) (length xs) 1) (xs ++ y ∷ ys) ≡ xs ++ choose known 1 y ∷ ys
+unfolding choose
+set-told true xs ys y = set-seam xs ys y 1
+set-told false xs ys y = refl
 
 -- what follows a beginning
 cancel : (xs ys zs : List ℕ) → xs ++ ys ≡ xs ++ zs → ys ≡ zs
@@ -41,21 +47,6 @@ lesser-same a b k h l = omega arith
 
 up-to : (start from k : ℕ) → start ≤ k → k < start + (from - start) → k ≤ from
 up-to start from k h l = omega arith
-
--- a test that is told
-lt-ltb : (m n : ℕ) → m < n → ltb m n ≡ true
-lt-ltb m n h = go (ltb m n) refl
-  where
-    go : (t : Bool) → ltb m n ≡ t → ltb m n ≡ true
-    go true e = e
-    go false e = absurd (omega (arith, ltb-false m n e))
-
-ge-ltb : (m n : ℕ) → n ≤ m → ltb m n ≡ false
-ge-ltb m n h = go (ltb m n) refl
-  where
-    go : (t : Bool) → ltb m n ≡ t → ltb m n ≡ false
-    go true e = absurd (omega (arith, ltb-true m n e))
-    go false e = e
 
 -- as many zeros
 zeros-snoc : (n : ℕ) → zeros n ++ 0 ∷ [] ≡ zeros (suc n)
@@ -98,25 +89,27 @@ module _ (before flags : List ℕ) (i : ℕ) (c : Cleared before flags i) where
       let e : i ≡ length before = omega (arith, cleared-length, c .within) in
       c .done ∙ rw (e, drop-of-length-le before {i = length before} (omega arith)) (append-nil (zeros (length before)))
 
--- a flag is set, or left
-module _ (flags : List ℕ) (index after : ℕ) (known : Bool) where
-  pub set-without : after ≤ index → flags ≡ choose (known and ltb index after) (set flags index 1) flags
-  unfolding choose
-  set-without h = rw (ge-ltb index after h, and-false known)
-
-  pub set-known : index < after → known ≡ true → set flags index 1 ≡ choose (known and ltb index after) (set flags index 1) flags
-  unfolding choose _and_
-  set-known h e = rw (e, lt-ltb index after h)
-
-  pub set-unknown : known ≡ false → flags ≡ choose (known and ltb index after) (set flags index 1) flags
-  unfolding choose _and_
-  set-unknown e = rw e
-
 -- one flag more at the end
 flags-snoc : (earlier later : List (List ℕ)) (y : List ℕ) → flagsOf earlier (later ++ y ∷ []) ≡ flagsOf earlier later ++ choose (member y (earlier ++ later)) 1 0 ∷ []
 unfolding flagsOf
 flags-snoc earlier [] y = rw (append-nil earlier)
 flags-snoc earlier (x ∷ later) y = ap (_∷_ (choose (member x earlier) 1 0)) (flags-snoc (earlier ++ x ∷ []) later y ∙ rw (append-assoc earlier (x ∷ []) later))
+
+-- one more, or none
+length-more : {A : Type 0} (t : Bool) (xs : List A) (x : A) → length (xs ++ choose t (x ∷ []) []) ≡ choose t (length xs + 1) (length xs)
+unfolding choose
+length-more true xs x = length-append xs (x ∷ [])
+length-more false xs x = ap length (append-nil xs)
+
+-- there are no more numbers than records
+numbers-few : (rs : List Record) → length (numbers Batches rs) ≤ length rs
+unfolding numbers choose
+numbers-few [] = omega arith
+numbers-few (r ∷ rs) = go (isOf Batches r) (numbers-few rs)
+  where
+    go : (t : Bool) → length (numbers Batches rs) ≤ length rs → length (choose t (held r (numbering Batches) ∷ numbers Batches rs) (numbers Batches rs)) ≤ suc (length rs)
+    go true h = omega arith
+    go false h = omega arith
 
 module _ (file : List ℕ) where
   -- the numbers from the start on, up to a place
@@ -129,62 +122,14 @@ module _ (file : List ℕ) where
       let e : place - start ≡ 0 = omega arith in
       rw e
 
-  -- the index after a record, as the code finds it
-  module _ (start place index : ℕ) where
-    pub index-early : place < start → index ≡ choose (isTarget file start place) (index + 1) index
-    unfolding isTarget choose _and_
-    index-early h = go (leb start place) refl
-      where
-        go : (t : Bool) → leb start place ≡ t → index ≡ choose (leb start place and isOf Batches (recordAt 1 place file)) (index + 1) index
-        go true e = absurd (omega (arith, leb-true start place e))
-        go false e = rw e
-
-    module _ (h : start ≤ place) where
-      later : leb start place ≡ true
-      later = go (leb start place) refl
-        where
-          go : (t : Bool) → leb start place ≡ t → leb start place ≡ true
-          go true e = e
-          go false e = absurd (omega (arith, leb-false start place e))
-
-      pub index-own : isOf Batches (recordAt 1 place file) ≡ true → index + 1 ≡ choose (isTarget file start place) (index + 1) index
-      unfolding isTarget choose _and_
-      index-own o = rw (later, o)
-
-      pub index-other : isOf Batches (recordAt 1 place file) ≡ false → index ≡ choose (isTarget file start place) (index + 1) index
-      unfolding isTarget choose _and_
-      index-other o = rw (later, o)
-
   -- the index of a record's flag is the number of headers before it
-  pub index-next : (start place index after : ℕ) → index ≡ length (ahead start place) → after ≡ choose (isTarget file start place) (index + 1) index → after ≡ length (ahead start (place + 1))
-  unfolding isTarget choose _and_
-  index-next start place index after i e = go (leb start place) (isOf Batches (recordAt 1 place file)) refl refl
-    where
-      go : (t d : Bool) → leb start place ≡ t → isOf Batches (recordAt 1 place file) ≡ d → after ≡ length (ahead start (place + 1))
-      go true true a o = e ∙ rw (a, o, numbers-more Batches 1 file start place (leb-true start place a), o, length-append) (omega (arith, i))
-      go true false a o = e ∙ rw (a, o, numbers-more Batches 1 file start place (leb-true start place a), o, append-nil (ahead start place)) i
-      go false d a o = e ∙ rw (a, ahead-none start (place + 1) (omega (arith, leb-false start place a))) (i ∙ ap length (ahead-none start place (omega (arith, leb-false start place a))))
-
-  pub index-end : (start place at index : ℕ) → at ≤ place → place ≤ at → index ≡ length (ahead start at) → index ≡ length (ahead start place)
-  index-end start place at index h l i =
-      let e : at ≡ place = omega arith in
-      i ∙ ap (λ (n : ℕ). length (ahead start n)) e
-
-  -- there are no more numbers than records
-  pub headers-few : (start place : ℕ) → length (ahead start place) ≤ place
+  index-next : (start place index after : ℕ) → index ≡ length (ahead start place) → after ≡ indexAfter file start place index → after ≡ length (ahead start (place + 1))
   unfolding choose
-  headers-few start zero = rw (ahead-none start 0 (omega arith)) (omega arith)
-  headers-few start (suc place) =
-      let e = index-next start place (length (ahead start place)) _ refl refl in
-      let n : place + 1 ≡ suc place = omega arith in
-      rw (← n) (rw (← e) (go (isTarget file start place) (headers-few start place)))
+  index-next start place index after i e = go (leb start place) refl
     where
-      go : (t : Bool) → length (ahead start place) ≤ place → choose t (length (ahead start place) + 1) (length (ahead start place)) ≤ place + 1
-      go true h = omega arith
-      go false h = omega arith
-
-  pub index-small : (start place at index : ℕ) → index ≡ length (ahead start at) → at ≤ place → place * 850 ≤ length file → length file ≤ 65535 * 850 → index < 65536
-  index-small start place at index i h w u = omega (arith, headers-few start at)
+      go : (t : Bool) → leb start place ≡ t → after ≡ length (ahead start (place + 1))
+      go true a = e ∙ rw (a, numbers-more Batches 1 file start place (leb-true start place a), length-more, i)
+      go false a = e ∙ rw (a, ahead-none start (place + 1) (omega (arith, leb-false start place a))) (i ∙ ap length (ahead-none start place (omega (arith, leb-false start place a))))
 
   pub index-none : (start : ℕ) → 0 ≡ length (ahead start 0)
   index-none start = sym (ap length (ahead-none start 0 (omega arith)))
@@ -192,16 +137,11 @@ module _ (file : List ℕ) where
   module _ (start : ℕ) where
     -- there is a flag for each number
     marks-length : (limit n : ℕ) → length (marksTo file limit start n) ≡ length (ahead start (start + n))
-    unfolding marksTo choose
+    unfolding marksTo
     marks-length limit zero = sym (ap length (ahead-none start (start + 0) (omega arith)))
     marks-length limit (suc n) =
         let e : start + suc n ≡ start + n + 1 = omega arith in
-        rw (e, numbers-more Batches 1 file start (start + n) (omega arith)) (go (isOf Batches (recordAt 1 (start + n) file)) (marks-length limit n))
-      where
-        go : (d : Bool) → length (marksTo file limit start n) ≡ length (ahead start (start + n))
-            → length (marksTo file limit start n ++ choose d (flagAt file limit (start + n) ∷ []) []) ≡ length (ahead start (start + n) ++ choose d (held (recordAt 1 (start + n) file) (numbering Batches) ∷ []) [])
-        go true h = rw (length-append, length-append, h)
-        go false h = rw (length-append, length-append, h)
+        rw (e, numbers-more Batches 1 file start (start + n) (omega arith)) (simp length-more (rw (marks-length limit n)))
 
     marks-place : (limit place : ℕ) → length (marksTo file limit start (place - start)) ≡ length (ahead start place)
     unfolding marksTo numbers cut
@@ -235,6 +175,11 @@ module _ (file : List ℕ) where
         let x = choose (isOf Batches (recordAt 1 (start + (k + j)) file)) (flagAt file l (start + (k + j)) ∷ []) [] in
         (r .0 ++ x, rw (e, r .1) (append-assoc (marksTo file l start k) (r .0) x))
 
+    marks-rest : (l k : ℕ) → k ≤ length file / 850 - start → (rest : List ℕ) × (marksTo file l start (length file / 850 - start) ≡ marksTo file l start k ++ rest)
+    marks-rest l k h =
+        let e : k + (length file / 850 - start - k) ≡ length file / 850 - start = omega arith in
+        rw e at (marks-split l k (length file / 850 - start - k))
+
     -- one record more
     marks-more : (l place : ℕ) → start ≤ place → marksTo file l start (place + 1 - start) ≡ marksTo file l start (place - start) ++ choose (isOf Batches (recordAt 1 place file)) (flagAt file l place ∷ []) []
     unfolding marksTo
@@ -242,6 +187,16 @@ module _ (file : List ℕ) where
         let e : place + 1 - start ≡ suc (place - start) = omega arith in
         let f : start + (place - start) ≡ place = omega arith in
         rw e (rw f)
+
+    -- one that has no flag
+    marks-early : (place l : ℕ) → place < start → marksTo file l start (place + 1 - start) ≡ marksTo file l start (place - start)
+    marks-early place l h =
+        let e : place + 1 - start ≡ place - start = omega arith in
+        rw e
+
+    marks-other : (place l : ℕ) → start ≤ place → isOf Batches (recordAt 1 place file) ≡ false → marksTo file l start (place + 1 - start) ≡ marksTo file l start (place - start)
+    unfolding choose
+    marks-other place l h o = marks-more l place h ∙ rw (o, append-nil (marksTo file l start (place - start)))
 
     -- before the first block, and after the last
     pub marks-none : (n : ℕ) → marksTo file 0 start n ≡ zeros (length (marksTo file 0 start n))
@@ -309,54 +264,39 @@ module _ (file : List ℕ) where
 
     spread-none : (from : ℕ) (flags : List ℕ) → from < length file / 850 → Marked file start from flags → Spread from (length file / 850) from flags
     spread-none from flags h e =
-        let k = from - start in
-        let j = length file / 850 - start - k in
-        let f : k + j ≡ length file / 850 - start = omega arith in
-        let r = marks-split from k j in
-        let t : marksTo file from start (length file / 850 - start) ≡ marksTo file from start k ++ r .0 = ap (marksTo file from start) (sym f) ∙ r .1 in
-        let m = marks-same (length file / 850) from k (λ i a q. let u = up-to start from i a q in lesser-same (length file / 850) from i (omega arith) u) in
-        record { rest = r .0; here = e ∙ t ∙ rw m; there = t }
+        let r = marks-rest from (from - start) (omega arith) in
+        let m = marks-same (length file / 850) from (from - start) (λ i a q. let u = up-to start from i a q in lesser-same (length file / 850) from i (omega arith) u) in
+        record { rest = r .0; here = e ∙ r .1 ∙ rw m; there = r .1 }
 
     module _ (from next place : ℕ) (flags : List ℕ) (s : Spread from next place flags) (h : place < length file / 850) (f : from ≤ place) (g : from ≤ next) where
       -- a record without a flag
-      spread-other : (after : ℕ) → ((k : ℕ) → k ≤ place → lesser after k ≡ lesser next k) → isTarget file start place ≡ false → Spread from after (place + 1) flags
-      unfolding isTarget _and_ choose
-      spread-other after n t = go (leb start place) refl
-        where
-          stay : (l : ℕ) (a : Bool) → leb start place ≡ a → marksTo file l start (place + 1 - start) ≡ marksTo file l start (place - start)
-          stay l true a =
-              let o : isOf Batches (recordAt 1 place file) ≡ false = rw a at t in
-              marks-more l place (leb-true start place a) ∙ rw (o, append-nil (marksTo file l start (place - start)))
-          stay l false a =
-              let e : place + 1 - start ≡ place - start = omega (arith, leb-false start place a) in
-              rw e
-
-          go : (a : Bool) → leb start place ≡ a → Spread from after (place + 1) flags
-          go a e =
-              record {
-                rest = s .rest;
-                here = s .here ∙ rw (stay after a e, marks-same after next (place - start) (λ k a q. n k (omega arith)));
-                there = s .there ∙ rw (stay from a e);
-              }
+      spread-other : (after : ℕ) → ((k : ℕ) → k ≤ place → lesser after k ≡ lesser next k) → ((l : ℕ) → marksTo file l start (place + 1 - start) ≡ marksTo file l start (place - start)) → Spread from after (place + 1) flags
+      spread-other after n stay =
+          record {
+            rest = s .rest;
+            here = s .here ∙ rw (stay after, marks-same after next (place - start) (λ k a q. n k (omega arith)));
+            there = s .there ∙ rw (stay from);
+          }
 
       module _ (l : start ≤ place) (o : isOf Batches (recordAt 1 place file) ≡ true) where
+        abbrev before : ℕ → List ℕ
+        before limit = marksTo file limit start (place - start)
+
         -- the flags from the place on
-        behind : (rest : List ℕ) × (s .rest ≡ flagAt file from place ∷ rest)
+        behind : (rest : List ℕ) × (s .rest ≡ flagAt file from place ∷ rest) × (marksTo file from start (length file / 850 - start) ≡ marksTo file from start (place + 1 - start) ++ rest)
         unfolding choose
         behind =
-            let k = place + 1 - start in
-            let j = length file / 850 - start - k in
-            let e : k + j ≡ length file / 850 - start = omega arith in
-            let r = marks-split from k j in
-            let a : marksTo file from start (length file / 850 - start) ≡ marksTo file from start k ++ r .0 = ap (marksTo file from start) (sym e) ∙ r .1 in
-            let b : marksTo file from start k ≡ marksTo file from start (place - start) ++ flagAt file from place ∷ [] = marks-more from place l ∙ rw o in
-            let c : marksTo file from start (place - start) ++ s .rest ≡ marksTo file from start (place - start) ++ flagAt file from place ∷ r .0 =
-            sym (s .there) ∙ a ∙ rw b (append-assoc (marksTo file from start (place - start)) (flagAt file from place ∷ []) (r .0)) in
-            (r .0, cancel (marksTo file from start (place - start)) (s .rest) (flagAt file from place ∷ r .0) c)
+            let r = marks-rest from (place + 1 - start) (omega arith) in
+            let m : marksTo file from start (place + 1 - start) ≡ before from ++ flagAt file from place ∷ [] = marks-more from place l ∙ rw o in
+            let c : before from ++ s .rest ≡ before from ++ flagAt file from place ∷ r .0 = sym (s .there) ∙ r .1 ∙ rw m (append-assoc (before from) (flagAt file from place ∷ []) (r .0)) in
+            (r .0, cancel (before from) (s .rest) (flagAt file from place ∷ r .0) c, r .1)
+
+        whole : flags ≡ before next ++ flagAt file from place ∷ behind .0
+        whole = s .here ∙ ap (λ (xs : List ℕ). before next ++ xs) (behind .1)
 
         -- so there is one
-        flag-within : length (marksTo file next start (place - start)) < length flags
-        flag-within = rw (s .here, behind .1, length-append) (omega arith)
+        flag-within : length (before next) < length flags
+        flag-within = rw (whole, length-append) (omega arith)
 
         module _ (after : ℕ) (n : (k : ℕ) → k ≤ place → lesser after k ≡ lesser next k) (known : Bool) (q : known ≡ meets Batches 1 file from (lesser next place) place) where
           -- what the block adds to it
@@ -374,137 +314,112 @@ module _ (file : List ℕ) where
               either false true = refl
               either false false = refl
 
-          marks-after : marksTo file after start (place + 1 - start) ≡ marksTo file next start (place - start) ++ choose known 1 (flagAt file from place) ∷ []
+          marks-after : marksTo file after start (place + 1 - start) ≡ before next ++ choose known 1 (flagAt file from place) ∷ []
           unfolding choose
           marks-after = marks-more after place l ∙ rw (o, flag-joined, marks-same after next (place - start) (λ k a q. n k (omega arith)))
 
-          -- the flag with what the block adds
-          told : (index : ℕ) → index ≡ length (marksTo file next start (place - start)) → choose known (set flags index 1) flags ≡ marksTo file after start (place + 1 - start) ++ behind .0
-          unfolding choose
-          told index i = go known refl
-            where
-              whole : flags ≡ (marksTo file next start (place - start)) ++ flagAt file from place ∷ behind .0
-              whole = s .here ∙ ap (λ (xs : List ℕ). (marksTo file next start (place - start)) ++ xs) (behind .1)
-
-              marked : (b : Bool) → known ≡ b → marksTo file after start (place + 1 - start) ++ behind .0 ≡ marksTo file next start (place - start) ++ choose b 1 (flagAt file from place) ∷ behind .0
-              marked b e =
-                  ap (λ (xs : List ℕ). xs ++ behind .0) (marks-after ∙ ap (λ (c : Bool). marksTo file next start (place - start) ++ choose c 1 (flagAt file from place) ∷ []) e)
-                  ∙ append-assoc (marksTo file next start (place - start)) (choose b 1 (flagAt file from place) ∷ []) (behind .0)
-
-              go : (b : Bool) → known ≡ b → choose b (set flags index 1) flags ≡ marksTo file after start (place + 1 - start) ++ behind .0
-              go true e =
-                  ap (λ (xs : List ℕ). set xs index 1) whole
-                  ∙ ap (λ (n : ℕ). set (marksTo file next start (place - start) ++ flagAt file from place ∷ behind .0) n 1) i
-                  ∙ set-seam (marksTo file next start (place - start)) (behind .0) (flagAt file from place) 1 ∙ sym (marked true e)
-              go false e = whole ∙ sym (marked false e)
-
-          spread-set : (index : ℕ) → index ≡ length (marksTo file next start (place - start)) → Spread from after (place + 1) (choose known (set flags index 1) flags)
-          unfolding choose
+          spread-set : (index : ℕ) → index ≡ length (before next) → Spread from after (place + 1) (choose known (set flags index 1) flags)
           spread-set index i =
-              let m : marksTo file from start (place + 1 - start) ≡ marksTo file from start (place - start) ++ flagAt file from place ∷ [] = marks-more from place l ∙ rw o in
               record {
                 rest = behind .0;
-                here = told index i;
-                there =
-                    s .there ∙ ap (λ (xs : List ℕ). marksTo file from start (place - start) ++ xs) (behind .1)
-                    ∙ sym (append-assoc (marksTo file from start (place - start)) (flagAt file from place ∷ []) (behind .0))
-                    ∙ ap (λ (xs : List ℕ). xs ++ behind .0) (sym m);
+                here =
+                    ap (λ (xs : List ℕ). choose known (set xs index 1) xs) whole
+                    ∙ rw (i, marks-after) (set-told known (before next) (behind .0) (flagAt file from place) ∙ sym (append-assoc (before next) (choose known 1 (flagAt file from place) ∷ []) (behind .0)));
+                there = behind .2;
               }
 
--- at a place of a block: what the table holds, the index of the next flag, and the flags
-pub record InMarking (file : List ℕ) (start from place : ℕ) (table : List ℕ) (count next index : ℕ) (flags : List ℕ) : Type 0 where
-  pub table-held : Held Batches 1 file from (length file / 850) place table count next
-  pub size : length table ≡ 4096
-  pub few : count + from ≤ place
+-- at a place of a block: what the table holds, the index of the next flag and that of the next block's first, and the flags
+pub record InMarking (room : ℕ) (file : List ℕ) (start from place : ℕ) (table : List ℕ) (count next kept index : ℕ) (flags : List ℕ) : Type 0 where
+  pub filling : Filling room Batches 1 file from (length file / 850) place table count next
   pub within : place ≤ length file / 850
-  pub ahead-of : from < next
   pub indexed : index ≡ length (numbers Batches (between 1 start place file))
+  pub indexed-next : kept ≡ length (numbers Batches (between 1 start (lesser next place) file))
   pub spread : Spread file start from next place flags
 
 module _ (file : List ℕ) (start from : ℕ) where
-  pub marking-begun : (table flags : List ℕ) (index : ℕ) → length table ≡ 4096 → from < length file / 850 → Marked file start from flags → index ≡ length (numbers Batches (between 1 start from file))
-      → InMarking file start from from table 0 (length file / 850) index flags
-  marking-begun table flags index n h m i =
+  pub marking-begun : (table flags : List ℕ) (index : ℕ) → ltb 0 (length table) ≡ true → leb (length table) 65536 ≡ true → from < length file / 850 → Marked file start from flags → index ≡ length (numbers Batches (between 1 start from file))
+      → InMarking (length table) file start from from table 0 (length file / 850) index index flags
+  marking-begun table flags index r n h m i =
+      let e : length file / 850 - (length file / 850 - from) ≡ from = omega arith in
       record {
-        table-held = held-none Batches 1 file from (length file / 850) table (omega arith) (omega arith);
-        size = n;
-        few = omega arith;
+        filling = filling-none Batches 1 file from (length file / 850) table r n h;
         within = omega arith;
-        ahead-of = h;
         indexed = i;
+        indexed-next = rw e i;
         spread = spread-none file start from flags h m;
       }
 
-  module _ (place : ℕ) (table : List ℕ) (count next index : ℕ) (flags : List ℕ) (b : InMarking file start from place table count next index flags) where
-    pub marking-tabled : Tabled 1 (numbering Batches) file table count
-    marking-tabled = b .table-held .holds .tabled
-
+  module _ (room place : ℕ) (table : List ℕ) (count next kept index : ℕ) (flags : List ℕ) (b : InMarking room file start from place table count next kept index flags) where
     pub index-few : length file ≤ 65535 * 850 → index < 65536
-    index-few u = omega (arith, b .indexed, b .within, headers-few file start place)
+    index-few u = omega (arith, b .indexed, b .within, numbers-few (between 1 start place file), cut-length (1 + start) (place - start) (drop (start * 850) file))
 
     module _ (h : place < length file / 850) (u : length file ≤ 65535 * 850) where
       pub marking-stands : Stands 1 place file
       marking-stands = (omega arith, omega arith)
 
       -- the record's flag lies among the flags
-      pub flag-fits : (after : ℕ) → after ≡ choose (isTarget file start place) (index + 1) index → index < after → index < length flags
-      unfolding isTarget choose _and_
+      pub flag-fits : (after : ℕ) → after ≡ indexAfter file start place index → index < after → index < length flags
+      unfolding choose
       flag-fits after e l = go (leb start place) (isOf Batches (recordAt 1 place file)) refl refl
         where
           go : (t d : Bool) → leb start place ≡ t → isOf Batches (recordAt 1 place file) ≡ d → index < length flags
           go true true a o =
-              omega (arith, b .indexed, marks-place file start next place, flag-within file start from next place flags (b .spread) h (omega (arith, b .few)) (omega (arith, b .ahead-of)) (leb-true start place a) o)
+              omega (arith, b .indexed, marks-place file start next place, flag-within file start from next place flags (b .spread) h (omega (arith, b .filling .few)) (omega (arith, b .filling .ahead)) (leb-true start place a) o)
           go true false a o = let z : after ≡ index = rw (a, o) at e in absurd (omega arith)
           go false d a o = let z : after ≡ index = rw a at e in absurd (omega arith)
 
       module _ (v : Visited) (q : v ≡ visited Batches 1 file table count place next) (table' : List ℕ) (t : table' ≡ tableVisited Batches 1 file table count place)
-          (after : ℕ) (e : after ≡ choose (isTarget file start place) (index + 1) index) (flags' : List ℕ) (w : flags' ≡ choose (v .known and ltb index after) (set flags index 1) flags) where
+          (after : ℕ) (e : after ≡ indexAfter file start place index) (flags' : List ℕ) (w : flags' ≡ choose (ltb index after) (choose (v .known) (set flags index 1) flags) flags)
+          (kept' : ℕ) (g : kept' ≡ choose (ltb place (v .next)) after kept) where
         told-known : v .known ≡ meets Batches 1 file from (lesser next place) place
-        told-known = visit-meets Batches 1 file from (length file / 850) place table count next (b .table-held) marking-stands v q
+        told-known = visit-meets room Batches 1 file from (length file / 850) place table count next (b .filling) marking-stands v q
 
         next-same : (k : ℕ) → k ≤ place → lesser (v .next) k ≡ lesser next k
-        next-same = visit-next Batches 1 file from (length file / 850) place table count next (b .table-held) marking-stands v q table' t
+        next-same = visit-next room Batches 1 file from (length file / 850) place table count next (b .filling) marking-stands v q table' t
 
         spread-next : Spread file start from (v .next) (place + 1) flags'
-        unfolding isTarget choose _and_
+        unfolding choose
         spread-next = go (leb start place) (isOf Batches (recordAt 1 place file)) refl refl
           where
             here : place < length file / 850
             here = h
 
             last : from ≤ place
-            last = omega (arith, b .few)
+            last = omega (arith, b .filling .few)
 
             front : from ≤ next
-            front = omega (arith, b .ahead-of)
+            front = omega (arith, b .filling .ahead)
 
-            and-true : (x : Bool) → (x and true) ≡ x
-            and-true true = refl
-            and-true false = refl
-
-            kept : after ≡ index → flags' ≡ flags
-            kept z =
-                let y : ltb index after ≡ false = ge-ltb index after (omega arith) in
-                w ∙ rw (y, and-false (v .known))
+            kept-flags : after ≡ index → flags' ≡ flags
+            kept-flags z = w ∙ rw (le-ltb index after (omega arith))
 
             go : (a d : Bool) → leb start place ≡ a → isOf Batches (recordAt 1 place file) ≡ d → Spread file start from (v .next) (place + 1) flags'
             go true true a o =
                 let z : after ≡ index + 1 = rw (a, o) at e in
-                let y : ltb index after ≡ true = lt-ltb index after (omega arith) in
-                let x : flags' ≡ choose (v .known) (set flags index 1) flags = w ∙ rw (y, and-true (v .known)) in
+                let x : flags' ≡ choose (v .known) (set flags index 1) flags = w ∙ rw (lt-ltb index after (omega arith)) in
                 rw x (spread-set file start from next place flags (b .spread) here last front (leb-true start place a) o (v .next) next-same (v .known) told-known index (b .indexed ∙ sym (marks-place file start next place)))
-            go true false a o = rw (kept (rw (a, o) at e)) (spread-other file start from next place flags (b .spread) here last front (v .next) next-same (rw (a, o)))
-            go false d a o = rw (kept (rw a at e)) (spread-other file start from next place flags (b .spread) here last front (v .next) next-same (rw a))
+            go true false a o = rw (kept-flags (rw (a, o) at e)) (spread-other file start from next place flags (b .spread) here last front (v .next) next-same (λ l. marks-other file start place l (leb-true start place a) o))
+            go false d a o = rw (kept-flags (rw a at e)) (spread-other file start from next place flags (b .spread) here last front (v .next) next-same (λ l. marks-early file start place l (leb-false start place a)))
 
-        pub marking-next : InMarking file start from (place + 1) table' (v .count) (v .next) after flags'
+        index-after : after ≡ length (numbers Batches (between 1 start (place + 1) file))
+        index-after = index-next file start place index after (b .indexed) e
+
+        kept-next : (c : Bool) → ltb place (v .next) ≡ c → kept' ≡ length (numbers Batches (between 1 start (lesser (v .next) (place + 1)) file))
+        unfolding choose
+        kept-next true i =
+            let x : v .next - (v .next - (place + 1)) ≡ place + 1 = omega (arith, ltb-true place (v .next) i) in
+            g ∙ rw (i, x) index-after
+        kept-next false i =
+            let x : v .next - (v .next - (place + 1)) ≡ v .next - (v .next - place) = omega (arith, ltb-false place (v .next) i) in
+            g ∙ rw (i, x, next-same place (omega arith)) (b .indexed-next)
+
+        pub marking-next : InMarking room file start from (place + 1) table' (v .count) (v .next) kept' after flags'
         marking-next =
             record {
-              table-held = held-next Batches 1 file from (length file / 850) place table count next (b .table-held) marking-stands v q table' t (omega (arith, b .few)) h;
-              size = visit-length Batches 1 file from (length file / 850) place table count next (b .table-held) marking-stands v q table' t ∙ b .size;
-              few = omega (arith, b .few, visit-count Batches 1 file from (length file / 850) place table count next (b .table-held) marking-stands v q table' t);
+              filling = filling-next room Batches 1 file from (length file / 850) place table count next (b .filling) marking-stands v q table' t h;
               within = omega arith;
-              ahead-of = visit-ahead Batches 1 file from (length file / 850) place table count next (b .table-held) marking-stands v q table' t (b .ahead-of) (λ l. omega (arith, b .few, b .size));
-              indexed = index-next file start place index after (b .indexed) e;
+              indexed = index-after;
+              indexed-next = kept-next _ refl;
               spread = spread-next;
             }
 
@@ -523,3 +438,8 @@ module _ (file : List ℕ) (start from : ℕ) where
         let s = b .spread in
         let e : s .rest ≡ [] = nothing (marksTo file from start (length file / 850 - start)) (s .rest) (s .there ∙ rw p) in
         s .here ∙ rw (e, p, append-nil (marksTo file next start (length file / 850 - start)))
+
+    pub kept-end : length file / 850 ≤ place → kept ≡ length (numbers Batches (between 1 start next file))
+    kept-end h =
+        let e : next - (next - place) ≡ next = omega (arith, b .filling .last) in
+        b .indexed-next ∙ rw e

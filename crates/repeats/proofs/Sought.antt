@@ -9,20 +9,20 @@ use native.Mathlib.Nat.{eq-or-lt-of-le, le-of-suc-le-suc, lt-irrefl}
 use native.Mathlib.Numerals.{add-one}
 use native.Mathlib.Omega.{arith}
 use borrow.Author.Tests.{ltb-true, ltb-false}
-use lib.Dec.{ltb}
+use lib.Dec.{leb, ltb}
 use lib.ListN.{length}
 use Rattle.record.specs.Choice.{_or_}
 use Rattle.nesting.specs.Records.{cut, recordAt}
-use Rattle.tables.specs.Tables.{Stands, Tabled}
+use Rattle.tables.specs.Tables.{Stands}
 use Rattle.repeats.specs.declared.Repeat.the-variants.{At, Nowhere}
 use Rattle.repeats.specs.declared.Sort.the-variants.{Payments}
 use Rattle.repeats.specs.declared.blocks.Visited.{Visited}
-use Rattle.repeats.specs.Repeats.{numbering, repeats}
+use Rattle.repeats.specs.Repeats.{repeats}
 use Rattle.repeats.specs.Blocks.{lesser, meets, visited, tableVisited, Blocked}
 use Rattle.repeats.proofs.Firsts.{wantedRepeat, seeking-stop, seeking-end}
 use Rattle.repeats.proofs.Passes.{isRepeat, seek}
 use Rattle.repeats.proofs.Ranges.{meets-join, meets-none, meets-all}
-use Rattle.repeats.proofs.Visits.{Held, held-none, held-next, visit-meets, visit-length, visit-count, visit-next, visit-ahead}
+use Rattle.repeats.proofs.Visits.{Filling, filling-none, filling-next, visit-meets, visit-next}
 
 or-middle : (a b c : Bool) → b ≡ true → ((a or b) or c) ≡ true
 unfolding _or_
@@ -30,32 +30,20 @@ or-middle true b c e = refl
 or-middle false b c e = rw e
 
 -- at a place of a block: what the table holds, and no record before the place has the number of an earlier one of the block
-pub record InBlock (first : ℕ) (bytes : List ℕ) (from best place : ℕ) (table : List ℕ) (count next : ℕ) : Type 0 where
-  pub table-held : Held Payments first bytes from best place table count next
-  pub size : length table ≡ 4096
-  pub few : count + from ≤ place
-  pub ahead : from < next
+pub record InBlock (room first : ℕ) (bytes : List ℕ) (from best place : ℕ) (table : List ℕ) (count next : ℕ) : Type 0 where
+  pub filling : Filling room Payments first bytes from best place table count next
   pub clean : (k : ℕ) → from ≤ k → k < place → meets Payments first bytes from (lesser next k) k ≡ false
 
 module _ (first : ℕ) (bytes : List ℕ) (from best : ℕ) where
-  pub block-begun : (table : List ℕ) → length table ≡ 4096 → from < best → InBlock first bytes from best from table 0 best
-  block-begun table n h = record {
-    table-held = held-none Payments first bytes from best table (omega arith) (omega arith);
-    size = n;
-    few = omega arith;
-    ahead = h;
-    clean = λ k l m. absurd (omega arith);
-  }
+  pub block-begun : (table : List ℕ) → ltb 0 (length table) ≡ true → leb (length table) 65536 ≡ true → from < best → InBlock (length table) first bytes from best from table 0 best
+  block-begun table r n h = record { filling = filling-none Payments first bytes from best table r n h; clean = λ k l m. absurd (omega arith) }
 
-  module _ (place : ℕ) (table : List ℕ) (count next : ℕ) (b : InBlock first bytes from best place table count next) where
-    pub block-tabled : Tabled first (numbering Payments) bytes table count
-    block-tabled = b .table-held .holds .tabled
-
+  module _ (room place : ℕ) (table : List ℕ) (count next : ℕ) (b : InBlock room first bytes from best place table count next) where
     -- a number of the block is an earlier one
     repeated : meets Payments first bytes from (lesser next place) place ≡ true → repeats Payments (cut first place bytes) (recordAt first place bytes) ≡ true
     repeated t =
-        let f = b .few in
-        let d = b .ahead in
+        let f = b .filling .few in
+        let d = b .filling .ahead in
         let m = meets-join Payments first bytes 0 from (lesser next place) place (omega arith) (omega arith) in
         let n = meets-join Payments first bytes 0 (lesser next place) place place (omega arith) (omega arith) in
         sym (meets-all Payments first bytes place) ∙ n ∙ rw m (or-middle _ _ _ t)
@@ -65,38 +53,33 @@ module _ (first : ℕ) (bytes : List ℕ) (from best : ℕ) where
       standing = (omega arith, omega arith)
 
       told : v .known ≡ meets Payments first bytes from (lesser next place) place
-      told = visit-meets Payments first bytes from best place table count next (b .table-held) standing v q
+      told = visit-meets room Payments first bytes from best place table count next (b .filling) standing v q
 
       pub block-hit : v .known ≡ true → Blocked first bytes from best place next
       block-hit t = record {
         within = omega arith;
-        ahead = b .ahead;
+        ahead = b .filling .ahead;
         clean = b .clean;
         found = λ l. repeated (sym told ∙ t);
       }
 
-      pub block-next : (after : List ℕ) → after ≡ tableVisited Payments first bytes table count place → v .known ≡ false → InBlock first bytes from best (place + 1) after (v .count) (v .next)
+      pub block-next : (after : List ℕ) → after ≡ tableVisited Payments first bytes table count place → v .known ≡ false → InBlock room first bytes from best (place + 1) after (v .count) (v .next)
       block-next after a t =
-          let f = b .few in
-          let n = b .size in
           record {
-            table-held = held-next Payments first bytes from best place table count next (b .table-held) standing v q after a (omega arith) h;
-            size = visit-length Payments first bytes from best place table count next (b .table-held) standing v q after a ∙ n;
-            few = omega (arith, visit-count Payments first bytes from best place table count next (b .table-held) standing v q after a);
-            ahead = visit-ahead Payments first bytes from best place table count next (b .table-held) standing v q after a (b .ahead) (λ l. omega arith);
+            filling = filling-next room Payments first bytes from best place table count next (b .filling) standing v q after a h;
             clean = λ k l m. still k l (le-of-suc-le-suc (rw (← add-one place) m));
           }
         where
           still : (k : ℕ) → from ≤ k → k ≤ place → meets Payments first bytes from (lesser (v .next) k) k ≡ false
           still k l m =
-              let e = visit-next Payments first bytes from best place table count next (b .table-held) standing v q after a k m in
+              let e = visit-next room Payments first bytes from best place table count next (b .filling) standing v q after a k m in
               rw e
               (⊎-elim (λ (i : k ≡ place). rw i (sym told ∙ t)) (λ (i : k < place). b .clean k l i) (eq-or-lt-of-le m))
 
     pub block-end : place ≤ best → best ≤ place → Blocked first bytes from best best next
     block-end h l = record {
       within = omega arith;
-      ahead = b .ahead;
+      ahead = b .filling .ahead;
       clean = λ k m i. b .clean k m (omega arith);
       found = λ m. absurd (lt-irrefl best m);
     }

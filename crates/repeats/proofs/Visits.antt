@@ -5,8 +5,8 @@ use mathlib.Core.Bool.{Bool, true, false}
 use mathlib.Core.List.{List, [], _∷_, _++_, append-nil}
 use Prim.Native.Nat.{ℕ, _+_, _-_, _≤_, _<_}
 use native.Mathlib.Omega.{arith}
-use borrow.Author.Tests.{ltb-true, ltb-false}
-use lib.Dec.{ltb}
+use borrow.Author.Tests.{leb-true, ltb-true, ltb-false}
+use lib.Dec.{leb, ltb}
 use lib.ListN.{length}
 use Rattle.record.specs.declared.Field.{Field}
 use Rattle.record.specs.Choice.{_and_, _or_, choose}
@@ -118,11 +118,32 @@ pub record Held (sort : Sort) (first : ℕ) (bytes : List ℕ) (from limit place
   pub holds : Holds first (numbering sort) bytes table count (numbers sort (between first from (lesser next place) bytes))
   pub full : next < limit → length table ≤ count
 
-pub held-none : (sort : Sort) (first : ℕ) (bytes : List ℕ) (from limit : ℕ) (table : List ℕ) → length table ≤ 65536 → from ≤ limit → Held sort first bytes from limit from table 0 limit
+-- the table of a block that begins at a place: it has room, holds no more numbers than records were visited, and none was left out at once
+pub record Filling (room : ℕ) (sort : Sort) (first : ℕ) (bytes : List ℕ) (from limit place : ℕ) (table : List ℕ) (count next : ℕ) : Type 0 where
+  pub table-held : Held sort first bytes from limit place table count next
+  pub size : length table ≡ room
+  pub roomy : 0 < room
+  pub few : count + from ≤ place
+  pub ahead : from < next
+  pub last : next ≤ limit
+
+pub filling-none : (sort : Sort) (first : ℕ) (bytes : List ℕ) (from limit : ℕ) (table : List ℕ) → ltb 0 (length table) ≡ true → leb (length table) 65536 ≡ true → from < limit
+    → Filling (length table) sort first bytes from limit from table 0 limit
 unfolding numbers cut
-held-none sort first bytes from limit table h l =
+filling-none sort first bytes from limit table r n l =
     let e : limit - (limit - from) - from ≡ 0 = omega arith in
-    record { holds = rw e (holds-none first (numbering sort) bytes table h); full = λ m. absurd (omega arith) }
+    record {
+      table-held = record { holds = rw e (holds-none first (numbering sort) bytes table (leb-true _ _ n)); full = λ m. absurd (omega arith) };
+      size = refl;
+      roomy = ltb-true _ _ r;
+      few = omega arith;
+      ahead = l;
+      last = omega arith;
+    }
+
+pub filling-tabled : (room : ℕ) (sort : Sort) (first : ℕ) (bytes : List ℕ) (from limit place : ℕ) (table : List ℕ) (count next : ℕ) → Filling room sort first bytes from limit place table count next
+    → Tabled first (numbering sort) bytes table count
+filling-tabled room sort first bytes from limit place table count next b = b .table-held .holds .tabled
 
 -- a number that is there already changes nothing
 again : (x y : List ℕ) (ys : List (List ℕ)) (b m : Bool) → alike x y ≡ b → member y ys ≡ m → member x ys ≡ true → member y ys ≡ member y (ys ++ x ∷ [])
@@ -131,7 +152,10 @@ again x y ys true m e f t = rw (member-snoc y ys x, ← alike-equal x y e, t)
 again x y ys false true e f t = rw (member-snoc y ys x, e, f)
 again x y ys false false e f t = rw (member-snoc y ys x, e, f)
 
-module _ (sort : Sort) (first : ℕ) (bytes : List ℕ) (from limit place : ℕ) (table : List ℕ) (count next : ℕ) (h : Held sort first bytes from limit place table count next) (s : Stands first place bytes) where
+module _ (room : ℕ) (sort : Sort) (first : ℕ) (bytes : List ℕ) (from limit place : ℕ) (table : List ℕ) (count next : ℕ) (b : Filling room sort first bytes from limit place table count next) (s : Stands first place bytes) where
+  h : Held sort first bytes from limit place table count next
+  h = b .table-held
+
   -- the numbers that the table holds
   abbrev these : List (List ℕ)
   these = numbers sort (between first from (lesser next place) bytes)
@@ -160,7 +184,7 @@ module _ (sort : Sort) (first : ℕ) (bytes : List ℕ) (from limit place : ℕ)
         ∙ ap (λ (b : Bool). isOf sort (recordAt first place bytes) and b) (known-is first (numbering sort) bytes table count these place (h .holds) s _ _ refl refl)
 
     module _ (after : List ℕ) (a : after ≡ tableVisited sort first bytes table count place) where
-      pub visit-length : length after ≡ length table
+      visit-length : length after ≡ length table
       visit-length = go (went sort first bytes table count place next v q after a)
         where
           entered-length : after ≡ tableAfter first (numbering sort) bytes table count place → length after ≡ length table
@@ -172,7 +196,7 @@ module _ (sort : Sort) (first : ℕ) (bytes : List ℕ) (from limit place : ℕ)
           go (entered o k r c n t) = entered-length t
           go (left o k r c n t) = entered-length t
 
-      pub visit-count : v .count ≤ count + 1
+      visit-count : v .count ≤ count + 1
       visit-count = go (went sort first bytes table count place next v q after a)
         where
           go : Went sort first bytes table count place next v after → v .count ≤ count + 1
@@ -182,28 +206,29 @@ module _ (sort : Sort) (first : ℕ) (bytes : List ℕ) (from limit place : ℕ)
           go (left o k r c n t) = omega (arith, count-full first (numbering sort) bytes table count these place (h .holds) s _ _ refl refl k r)
 
       -- what is left out is so from here on
-      pub visit-next : (k : ℕ) → k ≤ place → lesser (v .next) k ≡ lesser next k
-      visit-next k m = go (went sort first bytes table count place next v q after a)
+      next-by : (X : Type 0) → (v .next ≡ next → X) → (length table ≤ count → v .next ≡ lesser next place → X) → X
+      next-by X same less = go (went sort first bytes table count place next v q after a)
         where
-          go : Went sort first bytes table count place next v after → lesser (v .next) k ≡ lesser next k
-          go (other o c n t) = omega arith
-          go (met o i c n t) = omega arith
-          go (entered o i r c n t) = omega arith
-          go (left o i r c n t) = omega arith
+          go : Went sort first bytes table count place next v after → X
+          go (other o c n t) = same n
+          go (met o k c n t) = same n
+          go (entered o k r c n t) = same n
+          go (left o k r c n t) = less r n
 
-      pub visit-ahead : from < next → (length table ≤ count → from < place) → from < v .next
-      visit-ahead d g = go (went sort first bytes table count place next v q after a)
-        where
-          go : Went sort first bytes table count place next v after → from < v .next
-          go (other o c n t) = omega arith
-          go (met o k c n t) = omega arith
-          go (entered o k r c n t) = omega arith
-          go (left o k r c n t) =
-              let m = g r in
-              omega arith
+      pub visit-next : (k : ℕ) → k ≤ place → lesser (v .next) k ≡ lesser next k
+      visit-next k m = next-by (lesser (v .next) k ≡ lesser next k) (λ e. omega arith) (λ r e. omega arith)
+
+      visit-last : v .next ≤ next
+      visit-last = next-by (v .next ≤ next) (λ e. omega arith) (λ r e. omega arith)
+
+      visit-ahead : from < v .next
+      visit-ahead = next-by (from < v .next) (λ e. omega (arith, b .ahead)) (λ r e. omega (arith, b .ahead, b .few, b .size, b .roomy))
 
       -- the table holds the record's number too, unless there was one left out
-      module _ (f : from ≤ place) (l : place < limit) where
+      module _ (l : place < limit) where
+        f : from ≤ place
+        f = omega (arith, b .few)
+
         same-other : (b : Bool) → ltb place next ≡ b → isOf sort (recordAt first place bytes) ≡ false → numbers sort (between first from (lesser next (place + 1)) bytes) ≡ these
         unfolding choose
         same-other true e o = rw (more f (ltb-true _ _ e), o) (append-nil these)
@@ -232,7 +257,7 @@ module _ (sort : Sort) (first : ℕ) (bytes : List ℕ) (from limit place : ℕ)
             let e : next - (next - place) - (next - (next - place) - (place + 1)) ≡ next - (next - place) = omega arith in
             rw e
 
-        pub held-next : Held sort first bytes from limit (place + 1) after (v .count) (v .next)
+        held-next : Held sort first bytes from limit (place + 1) after (v .count) (v .next)
         held-next = go (went sort first bytes table count place next v q after a)
           where
             built : (c n : ℕ) (t : List ℕ) → v .count ≡ c → v .next ≡ n → after ≡ t → Held sort first bytes from limit (place + 1) t c n
@@ -262,3 +287,13 @@ module _ (sort : Sort) (first : ℕ) (bytes : List ℕ) (from limit place : ℕ)
                 let z = count-full first (numbering sort) bytes table count these place (h .holds) s _ _ refl refl k r in
                 let w = after-length first (numbering sort) bytes table count these place (h .holds) s _ _ refl refl in
                 built _ (lesser next place) _ c n t (record { holds = rw left-same x; full = λ m. rw (w, z) r })
+
+        pub filling-next : Filling room sort first bytes from limit (place + 1) after (v .count) (v .next)
+        filling-next = record {
+          table-held = held-next;
+          size = visit-length ∙ b .size;
+          roomy = b .roomy;
+          few = omega (arith, b .few, visit-count);
+          ahead = visit-ahead;
+          last = omega (arith, b .last, visit-last);
+        }

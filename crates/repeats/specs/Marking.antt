@@ -1,11 +1,10 @@
 -- How the batches from a start on are marked, block by block. No promise to other crates rests on it.
 use Prim.Native.Nat.{ℕ, zero, suc, _+_, _-_, _/_}
 use mathlib.Core.Path.{_≡_}
-use mathlib.Core.Bool.{Bool}
 use mathlib.Core.List.{List, [], _∷_, _++_}
 use lib.Dec.{leb}
 use lib.ListN.{length}
-use Rattle.record.specs.Choice.{_and_, choose}
+use Rattle.record.specs.Choice.{choose}
 use Rattle.nesting.specs.Records.{recordAt}
 use Rattle.repeats.specs.declared.Sort.the-variants.{Batches}
 use Rattle.repeats.specs.Repeats.{isOf}
@@ -17,9 +16,9 @@ zeros zero = []
 zeros (suc n) = 0 ∷ zeros n
 
 module _ (file : List ℕ) where
-  -- the record is a header from the start on
-  unfoldable pub isTarget : ℕ → ℕ → Bool
-  isTarget start place = leb start place and isOf Batches (recordAt 1 place file)
+  -- the index of the next flag after the record at the place, which has one if it is a header from the start on
+  abbrev pub indexAfter : ℕ → ℕ → ℕ → ℕ
+  indexAfter start place index = choose (leb start place) (choose (isOf Batches (recordAt 1 place file)) (index + 1) index) index
 
   -- the flag of the header at the place, as far as the numbers before the limit tell
   abbrev pub flagAt : ℕ → ℕ → ℕ

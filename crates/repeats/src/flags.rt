@@ -8,14 +8,21 @@ ghost use mathlib.Core.Path.{_≡_};
 ghost use Prim.Native.Nat.{_+_, _*_, _/_, _<_, _≤_};
 ghost use lib.Dec.{ltb};
 ghost use lib.ListN.{length, set};
-ghost use Rattle.record.specs.Choice.{_and_, choose};
+ghost use Rattle.record.specs.Choice.{choose};
 ghost use Rattle.tables.specs.Tables.{Stands};
 ghost use Rattle.repeats.specs.declared.Sort.the-variants.{Batches};
 ghost use Rattle.repeats.specs.Repeats.{numbers};
 ghost use Rattle.repeats.specs.Blocks.{between};
-ghost use Rattle.repeats.specs.Marking.{zeros, isTarget, Marked};
+ghost use Rattle.repeats.specs.Marking.{zeros, indexAfter, Marked};
 ghost use Rattle.repeats.specs.Schedules.{numbersBefore, numbersFrom, flagsOf};
 
+// Where the next block begins, and the index of the flag of the first header from there on.
+struct NextBlock {
+    place: usize,
+    index: usize,
+}
+
+// Every flag says that its batch's number is new.
 fn clear(flags: &mut [u8])
     ensures { λ r. ⌜ now (flags .exit) ≡ zeros (length (now (flags .entry))) ⌝ }
 {
@@ -27,9 +34,9 @@ fn clear(flags: &mut [u8])
 }
 
 // The index of the next flag after the record at the place, which has one if it is a header from the start on.
-fn next_index(file: &[u8], start: usize, place: usize, index: usize) -> usize
+fn index_after(file: &[u8], start: usize, place: usize, index: usize) -> usize
     requires { ⌜ Stands 1 place (now file) × (index < 65536) ⌝ }
-    ensures { λ r. ⌜ r ≡ choose (isTarget (now (file .entry)) start place) (index + 1) index ⌝ }
+    ensures { λ r. ⌜ r ≡ indexAfter (now (file .entry)) start place index ⌝ }
 {
     if place < start {
         return index;
@@ -40,24 +47,20 @@ fn next_index(file: &[u8], start: usize, place: usize, index: usize) -> usize
     index
 }
 
-// The index of the flag of the first header from the place on: the headers from the start up to there.
-fn index_of(file: &[u8], start: usize, place: usize) -> usize
-    requires { ⌜ (length (now file) ≤ 65535 * 850) × (place * 850 ≤ length (now file)) ⌝ }
-    ensures { λ r. ⌜ r ≡ length (numbers Batches (between 1 start place (now (file .entry)))) ⌝ }
+// The index at which the next block begins: it goes along until the block leaves a header out, and is kept from then on.
+fn kept_index(place: usize, next: usize, kept: usize, after: usize) -> usize
+    ensures { λ r. ⌜ r ≡ choose (ltb place next) after kept ⌝ }
 {
-    let mut index: usize = 0;
-    let mut at: usize = 0;
-    while at < place {
-        index = next_index(file, start, at, index);
-        at += 1;
+    if place < next {
+        return after;
     }
-    index
+    kept
 }
 
 // Sets the flag of a record that has one, up to the next index, and whose number is known.
 fn set_flag(flags: &mut [u8], index: usize, after: usize, known: bool)
     requires { ⌜ (index < after → index < length (now flags)) ⌝ }
-    ensures { λ r. ⌜ now (flags .exit) ≡ choose (known and ltb index after) (set (now (flags .entry)) index 1) (now (flags .entry)) ⌝ }
+    ensures { λ r. ⌜ now (flags .exit) ≡ choose (ltb index after) (choose known (set (now (flags .entry)) index 1) (now (flags .entry))) (now (flags .entry)) ⌝ }
 {
     if after <= index {
         return;
@@ -67,29 +70,35 @@ fn set_flag(flags: &mut [u8], index: usize, after: usize, known: bool)
     }
 }
 
-// One block of headers, from a place on: every flag is set whose batch has the number of an earlier one in the block. Returns the first header
-// that the block has no room for, or the number of records.
-fn mark_block(file: &[u8], start: usize, from: usize, flags: &mut [u8]) -> usize
-    requires { ⌜ (length (now file) ≤ 65535 * 850) × (from < length (now file) / 850) × Marked (now file) start from (now flags) ⌝ }
-    ensures ahead { λ r. ⌜ from < r ⌝ }
-    ensures after { λ r. ⌜ Marked (now (file .entry)) start r (now (flags .exit)) ⌝ }
+// One block of headers, from a place and the index of the first flag there on: every flag is set whose batch has the number of an earlier one in
+// the block. The next block begins at the first header that this one has no room for, or at the number of records.
+fn mark_block(file: &[u8], start: usize, from: usize, index: usize, flags: &mut [u8]) -> NextBlock
+    requires { ⌜ (length (now file) ≤ 65535 * 850) × (from < length (now file) / 850) × Marked (now file) start from (now flags) × (index ≡ length (numbers Batches (between 1 start from (now file)))) ⌝ }
+    ensures ahead { λ r. ⌜ from < r .place ⌝ }
+    ensures after { λ r. ⌜ Marked (now (file .entry)) start (r .place) (now (flags .exit)) ⌝ }
+    ensures counted { λ r. ⌜ r .index ≡ length (numbers Batches (between 1 start (r .place) (now (file .entry)))) ⌝ }
 {
     let records = file.len() / 850;
     let mut table = [0u16; TABLE];
     let mut count: usize = 0;
     let mut next = records;
-    let mut index = index_of(file, start, from);
+    let mut kept = index;
+    let mut flag = index;
     let mut place = from;
     while place < records {
         let seen = visit(file, 1, place, Sort::Batches, &mut table, count, next);
-        let after = next_index(file, start, place, index);
-        set_flag(flags, index, after, seen.known);
+        let after = index_after(file, start, place, flag);
+        set_flag(flags, flag, after, seen.known);
+        kept = kept_index(place, seen.next, kept, after);
         count = seen.count;
         next = seen.next;
-        index = after;
+        flag = after;
         place += 1;
     }
-    next
+    NextBlock {
+        place: next,
+        index: kept,
+    }
 }
 
 // Marks each batch from the start on: 1 where an earlier batch of the file has its number, else 0. The first block stands apart: a function that
@@ -100,8 +109,8 @@ pub(crate) fn mark_batches(file: &[u8], start: usize, flags: &mut [u8])
 {
     clear(flags);
     let records = file.len() / 850;
-    let mut from = mark_block(file, start, 0, flags);
-    while from < records {
-        from = mark_block(file, start, from, flags);
+    let mut next = mark_block(file, start, 0, 0, flags);
+    while next.place < records {
+        next = mark_block(file, start, next.place, next.index, flags);
     }
 }

@@ -1,11 +1,13 @@
 use Prim.Native.Nat.{_≤_, _-_}
-use Rattle.repeats.proofs.Sought.{InBlock, block-begun, block-tabled, block-hit, block-next, block-end}
+use lib.ListN.{length}
+use Rattle.repeats.proofs.Sought.{InBlock, block-begun, block-hit, block-next, block-end}
+use Rattle.repeats.proofs.Visits.{filling-tabled}
 use borrow.Author.Needs.{needs}
 use Rattle.repeats.proofs.blocks.block.Statement.{statement}
 use Rattle.repeats.proofs.blocks.block.Tie as tie
 
 abbrev Inv-loop : tie.InvT-loop
-Inv-loop part first from best table₀ count₀ next₀ place₀ table count next place = (place ≤ best) × InBlock first part from best place table count next
+Inv-loop part first from best table₀ count₀ next₀ place₀ table count next place = (place ≤ best) × InBlock (length table₀) first part from best place table count next
 
 abbrev μ-loop : tie.MeasureT-loop
 μ-loop part first from best table₀ count₀ next₀ place₀ table count next place = best - place
@@ -17,7 +19,7 @@ slice-aggregate-visit : tie.Need-slice-aggregate-visit Inv-loop μ-loop
 slice-aggregate-visit c = search needs
 
 visit-requires : tie.Need-visit-requires Inv-loop μ-loop
-visit-requires c κs = search (needs, block-tabled)
+visit-requires c κs = search (needs, filling-tabled)
 
 returns : tie.Need-returns Inv-loop μ-loop
 returns c = search (needs, block-hit)

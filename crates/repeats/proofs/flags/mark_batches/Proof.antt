@@ -1,21 +1,27 @@
+use mathlib.Core.Path.{_≡_}
 use Prim.Native.Nat.{_-_}
+use lib.ListN.{length}
+use Rattle.repeats.specs.declared.Sort.the-variants.{Batches}
+use Rattle.repeats.specs.Repeats.{numbers}
+use Rattle.repeats.specs.Blocks.{between}
 use Rattle.repeats.specs.Marking.{Marked}
-use Rattle.repeats.proofs.Flagging.{marked-none, marked-length, marked-all}
+use Rattle.repeats.proofs.Flagging.{index-none, marked-none, marked-length, marked-all}
 use borrow.Author.Needs.{needs}
 use Rattle.repeats.proofs.flags.mark_batches.Statement.{statement}
 use Rattle.repeats.proofs.flags.mark_batches.Tie as tie
 
 abbrev Inv-loop : tie.InvT-loop
-Inv-loop file start flags₀ records from₀ flags from = Marked file start from flags
+Inv-loop file start flags₀ records next₀ flags next =
+    Marked file start (next .place) flags × (next .index ≡ length (numbers Batches (between 1 start (next .place) file)))
 
 abbrev μ-loop : tie.MeasureT-loop
-μ-loop file start flags₀ records from₀ flags from = records - from
+μ-loop file start flags₀ records next₀ flags next = records - next .place
 
 clear-requires : tie.Need-clear-requires Inv-loop μ-loop
 clear-requires c κs = search needs
 
 mark-block-requires : tie.Need-mark-block-requires Inv-loop μ-loop
-mark-block-requires c κs = search (needs, marked-none)
+mark-block-requires c κs = search (needs, marked-none, index-none)
 
 loop-holds : tie.Need-loop-holds Inv-loop μ-loop
 loop-holds c = search needs

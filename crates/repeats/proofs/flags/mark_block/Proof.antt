@@ -1,18 +1,17 @@
 use Prim.Native.Nat.{_-_}
-use Rattle.repeats.proofs.Flagging.{InMarking, marking-begun, marking-tabled, index-few, marking-stands, flag-fits, marking-next, marking-length, marking-end}
+use lib.ListN.{length}
+use Rattle.repeats.proofs.Flagging.{InMarking, marking-begun, index-few, marking-stands, flag-fits, marking-next, marking-length, marking-end, kept-end}
+use Rattle.repeats.proofs.Visits.{filling-tabled}
 use borrow.Author.Needs.{needs}
 use Rattle.repeats.proofs.flags.mark_block.Statement.{statement}
 use Rattle.repeats.proofs.flags.mark_block.Tie as tie
 
 abbrev Inv-loop : tie.InvT-loop
-Inv-loop file start from flags₀ records table₀ count₀ next₀ index₀ place₀ flags table count next index place =
-    InMarking file start from place table count next index flags
+Inv-loop file start from index flags₀ records table₀ count₀ next₀ kept₀ flag₀ place₀ flags table count next kept flag place =
+    InMarking (length table₀) file start from place table count next kept flag flags
 
 abbrev μ-loop : tie.MeasureT-loop
-μ-loop file start from flags₀ records table₀ count₀ next₀ index₀ place₀ flags table count next index place = records - place
-
-index-of-requires : tie.Need-index-of-requires Inv-loop μ-loop
-index-of-requires c κs = search needs
+μ-loop file start from index flags₀ records table₀ count₀ next₀ kept₀ flag₀ place₀ flags table count next kept flag place = records - place
 
 loop-holds : tie.Need-loop-holds Inv-loop μ-loop
 loop-holds c = search (needs, marking-begun)
@@ -21,13 +20,16 @@ slice-aggregate-visit : tie.Need-slice-aggregate-visit Inv-loop μ-loop
 slice-aggregate-visit c = search needs
 
 visit-requires : tie.Need-visit-requires Inv-loop μ-loop
-visit-requires c κs = search (needs, marking-tabled)
+visit-requires c κs = search (needs, filling-tabled)
 
-next-index-requires : tie.Need-next-index-requires Inv-loop μ-loop
-next-index-requires c κs = search (needs, index-few, marking-stands)
+index-after-requires : tie.Need-index-after-requires Inv-loop μ-loop
+index-after-requires c κs = search (needs, index-few, marking-stands)
 
 set-flag-requires : tie.Need-set-flag-requires Inv-loop μ-loop
 set-flag-requires c κs = search (needs, flag-fits)
+
+kept-index-requires : tie.Need-kept-index-requires Inv-loop μ-loop
+kept-index-requires c κs = search needs
 
 add-place : tie.Need-add-place Inv-loop μ-loop
 add-place c = search needs
@@ -42,7 +44,7 @@ same-length : tie.Need-same-length Inv-loop μ-loop
 same-length c = search (needs, marking-length)
 
 returns : tie.Need-returns Inv-loop μ-loop
-returns c = search (needs, marking-end)
+returns c = search (needs, marking-end, kept-end)
 
 pub mark-block-spec : {M : Type 1} → statement M
 mark-block-spec =
@@ -50,12 +52,12 @@ mark-block-spec =
     (tie.spec
     Inv-loop
     μ-loop
-    index-of-requires
     loop-holds
     slice-aggregate-visit
     visit-requires
-    next-index-requires
+    index-after-requires
     set-flag-requires
+    kept-index-requires
     add-place
     loop-less
     loop-again
