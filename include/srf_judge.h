@@ -48,7 +48,7 @@ extern "C" {
  * Time: two passes over the file. Schedule numbers that rise in file order, and Payment IDs that climb in their batch, cost one comparison
  * each. Others cost more, and whatever they are no more than this: 52 comparisons a batch for the file's schedule numbers (13 in each of
  * at most 4 blocks of 4,096); 8 hashes and 120 comparisons a payment for a batch's Payment IDs (16 in walks, 13 in each of at most 8
- * blocks); to enter a number into a block, 4,095 moves of two bytes. Each pass, walk and block reads the code of a record at most twice. A
+ * blocks); to enter a number into a block, 4,095 moves of two bytes. Each pass, walk and block reads the code of a record at most once. A
  * batch in which a Payment ID repeats is walked twice.
  */
 uint64_t srf_judge(const uint8_t *file, size_t file_size, const uint8_t *book, size_t book_size, uint8_t *report, size_t report_size);

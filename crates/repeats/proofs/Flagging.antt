@@ -123,7 +123,7 @@ module _ (file : List ℕ) where
       rw e
 
   -- the index of a record's flag is the number of headers before it
-  index-next : (start place index after : ℕ) → index ≡ length (ahead start place) → after ≡ indexAfter file start place index → after ≡ length (ahead start (place + 1))
+  index-next : (start place index after : ℕ) → index ≡ length (ahead start place) → after ≡ indexAfter start place (isOf Batches (recordAt 1 place file)) index → after ≡ length (ahead start (place + 1))
   unfolding choose
   index-next start place index after i e = go (leb start place) refl
     where
@@ -357,71 +357,75 @@ module _ (file : List ℕ) (start from : ℕ) where
       pub marking-stands : Stands 1 place file
       marking-stands = (omega arith, omega arith)
 
-      -- the record's flag lies among the flags
-      pub flag-fits : (after : ℕ) → after ≡ indexAfter file start place index → index < after → index < length flags
-      unfolding choose
-      flag-fits after e l = go (leb start place) (isOf Batches (recordAt 1 place file)) refl refl
-        where
-          go : (t d : Bool) → leb start place ≡ t → isOf Batches (recordAt 1 place file) ≡ d → index < length flags
-          go true true a o =
-              omega (arith, b .indexed, marks-place file start next place, flag-within file start from next place flags (b .spread) h (omega (arith, b .filling .few)) (omega (arith, b .filling .ahead)) (leb-true start place a) o)
-          go true false a o = let z : after ≡ index = rw (a, o) at e in absurd (omega arith)
-          go false d a o = let z : after ≡ index = rw a at e in absurd (omega arith)
+      module _ (v : Visited) (q : v ≡ visited Batches 1 file table count place next) (after : ℕ) (e : after ≡ indexAfter start place (v .own) index) where
+        after-told : after ≡ indexAfter start place (isOf Batches (recordAt 1 place file)) index
+        unfolding visited
+        after-told = e ∙ ap (λ (x : Visited). indexAfter start place (x .own) index) q
 
-      module _ (v : Visited) (q : v ≡ visited Batches 1 file table count place next) (table' : List ℕ) (t : table' ≡ tableVisited Batches 1 file table count place)
-          (after : ℕ) (e : after ≡ indexAfter file start place index) (flags' : List ℕ) (w : flags' ≡ choose (ltb index after) (choose (v .known) (set flags index 1) flags) flags)
-          (kept' : ℕ) (g : kept' ≡ choose (ltb place (v .next)) after kept) where
-        told-known : v .known ≡ meets Batches 1 file from (lesser next place) place
-        told-known = visit-meets room Batches 1 file from (length file / 850) place table count next (b .filling) marking-stands v q
-
-        next-same : (k : ℕ) → k ≤ place → lesser (v .next) k ≡ lesser next k
-        next-same = visit-next room Batches 1 file from (length file / 850) place table count next (b .filling) marking-stands v q table' t
-
-        spread-next : Spread file start from (v .next) (place + 1) flags'
+        -- the record's flag lies among the flags
+        pub flag-fits : index < after → index < length flags
         unfolding choose
-        spread-next = go (leb start place) (isOf Batches (recordAt 1 place file)) refl refl
+        flag-fits l = go (leb start place) (isOf Batches (recordAt 1 place file)) refl refl
           where
-            here : place < length file / 850
-            here = h
-
-            last : from ≤ place
-            last = omega (arith, b .filling .few)
-
-            front : from ≤ next
-            front = omega (arith, b .filling .ahead)
-
-            kept-flags : after ≡ index → flags' ≡ flags
-            kept-flags z = w ∙ rw (le-ltb index after (omega arith))
-
-            go : (a d : Bool) → leb start place ≡ a → isOf Batches (recordAt 1 place file) ≡ d → Spread file start from (v .next) (place + 1) flags'
+            go : (t d : Bool) → leb start place ≡ t → isOf Batches (recordAt 1 place file) ≡ d → index < length flags
             go true true a o =
-                let z : after ≡ index + 1 = rw (a, o) at e in
-                let x : flags' ≡ choose (v .known) (set flags index 1) flags = w ∙ rw (lt-ltb index after (omega arith)) in
-                rw x (spread-set file start from next place flags (b .spread) here last front (leb-true start place a) o (v .next) next-same (v .known) told-known index (b .indexed ∙ sym (marks-place file start next place)))
-            go true false a o = rw (kept-flags (rw (a, o) at e)) (spread-other file start from next place flags (b .spread) here last front (v .next) next-same (λ l. marks-other file start place l (leb-true start place a) o))
-            go false d a o = rw (kept-flags (rw a at e)) (spread-other file start from next place flags (b .spread) here last front (v .next) next-same (λ l. marks-early file start place l (leb-false start place a)))
+                omega (arith, b .indexed, marks-place file start next place, flag-within file start from next place flags (b .spread) h (omega (arith, b .filling .few)) (omega (arith, b .filling .ahead)) (leb-true start place a) o)
+            go true false a o = let z : after ≡ index = rw (a, o) at after-told in absurd (omega arith)
+            go false d a o = let z : after ≡ index = rw a at after-told in absurd (omega arith)
 
-        index-after : after ≡ length (numbers Batches (between 1 start (place + 1) file))
-        index-after = index-next file start place index after (b .indexed) e
+        module _ (table' : List ℕ) (t : table' ≡ tableVisited Batches 1 file table count place) (flags' : List ℕ) (w : flags' ≡ choose (ltb index after) (choose (v .known) (set flags index 1) flags) flags)
+            (kept' : ℕ) (g : kept' ≡ choose (ltb place (v .next)) after kept) where
+          told-known : v .known ≡ meets Batches 1 file from (lesser next place) place
+          told-known = visit-meets room Batches 1 file from (length file / 850) place table count next (b .filling) marking-stands v q
 
-        kept-next : (c : Bool) → ltb place (v .next) ≡ c → kept' ≡ length (numbers Batches (between 1 start (lesser (v .next) (place + 1)) file))
-        unfolding choose
-        kept-next true i =
-            let x : v .next - (v .next - (place + 1)) ≡ place + 1 = omega (arith, ltb-true place (v .next) i) in
-            g ∙ rw (i, x) index-after
-        kept-next false i =
-            let x : v .next - (v .next - (place + 1)) ≡ v .next - (v .next - place) = omega (arith, ltb-false place (v .next) i) in
-            g ∙ rw (i, x, next-same place (omega arith)) (b .indexed-next)
+          next-same : (k : ℕ) → k ≤ place → lesser (v .next) k ≡ lesser next k
+          next-same = visit-next room Batches 1 file from (length file / 850) place table count next (b .filling) marking-stands v q table' t
 
-        pub marking-next : InMarking room file start from (place + 1) table' (v .count) (v .next) kept' after flags'
-        marking-next =
-            record {
-              filling = filling-next room Batches 1 file from (length file / 850) place table count next (b .filling) marking-stands v q table' t h;
-              within = omega arith;
-              indexed = index-after;
-              indexed-next = kept-next _ refl;
-              spread = spread-next;
-            }
+          spread-next : Spread file start from (v .next) (place + 1) flags'
+          unfolding choose
+          spread-next = go (leb start place) (isOf Batches (recordAt 1 place file)) refl refl
+            where
+              here : place < length file / 850
+              here = h
+
+              last : from ≤ place
+              last = omega (arith, b .filling .few)
+
+              front : from ≤ next
+              front = omega (arith, b .filling .ahead)
+
+              kept-flags : after ≡ index → flags' ≡ flags
+              kept-flags z = w ∙ rw (le-ltb index after (omega arith))
+
+              go : (a d : Bool) → leb start place ≡ a → isOf Batches (recordAt 1 place file) ≡ d → Spread file start from (v .next) (place + 1) flags'
+              go true true a o =
+                  let z : after ≡ index + 1 = rw (a, o) at after-told in
+                  let x : flags' ≡ choose (v .known) (set flags index 1) flags = w ∙ rw (lt-ltb index after (omega arith)) in
+                  rw x (spread-set file start from next place flags (b .spread) here last front (leb-true start place a) o (v .next) next-same (v .known) told-known index (b .indexed ∙ sym (marks-place file start next place)))
+              go true false a o = rw (kept-flags (rw (a, o) at after-told)) (spread-other file start from next place flags (b .spread) here last front (v .next) next-same (λ l. marks-other file start place l (leb-true start place a) o))
+              go false d a o = rw (kept-flags (rw a at after-told)) (spread-other file start from next place flags (b .spread) here last front (v .next) next-same (λ l. marks-early file start place l (leb-false start place a)))
+
+          index-after : after ≡ length (numbers Batches (between 1 start (place + 1) file))
+          index-after = index-next file start place index after (b .indexed) after-told
+
+          kept-next : (c : Bool) → ltb place (v .next) ≡ c → kept' ≡ length (numbers Batches (between 1 start (lesser (v .next) (place + 1)) file))
+          unfolding choose
+          kept-next true i =
+              let x : v .next - (v .next - (place + 1)) ≡ place + 1 = omega (arith, ltb-true place (v .next) i) in
+              g ∙ rw (i, x) index-after
+          kept-next false i =
+              let x : v .next - (v .next - (place + 1)) ≡ v .next - (v .next - place) = omega (arith, ltb-false place (v .next) i) in
+              g ∙ rw (i, x, next-same place (omega arith)) (b .indexed-next)
+
+          pub marking-next : InMarking room file start from (place + 1) table' (v .count) (v .next) kept' after flags'
+          marking-next =
+              record {
+                filling = filling-next room Batches 1 file from (length file / 850) place table count next (b .filling) marking-stands v q table' t h;
+                within = omega arith;
+                indexed = index-after;
+                indexed-next = kept-next _ refl;
+                spread = spread-next;
+              }
 
     -- there are as many flags as before
     pub marking-length : (before : List ℕ) → Marked file start from before → length flags ≡ length before

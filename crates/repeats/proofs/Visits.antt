@@ -41,7 +41,7 @@ tabled-as sort field first bytes table count i t = rw i t
 
 module _ (sort : Sort) (first : ℕ) (bytes table : List ℕ) (count place next : ℕ) where
   -- the results of the code
-  pub visit-other : isOf sort (recordAt first place bytes) ≡ false → record { known = false; count = count; next = next } ≡ visited sort first bytes table count place next
+  pub visit-other : isOf sort (recordAt first place bytes) ≡ false → record { own = false; known = false; count = count; next = next } ≡ visited sort first bytes table count place next
   unfolding visited isLeftOut _and_ choose
   visit-other o = sym (rw o)
 
@@ -74,29 +74,29 @@ module _ (sort : Sort) (first : ℕ) (bytes table : List ℕ) (count place next 
       grows true f h = refl
       grows false f h = absurd (omega arith)
 
-      pub visit-known : e .known ≡ true → record { known = true; count = count; next = next } ≡ visited sort first bytes table count place next
+      pub visit-known : e .known ≡ true → record { own = true; known = true; count = count; next = next } ≡ visited sort first bytes table count place next
       unfolding visited isLeftOut entryOf isNew _and_ choose
       visit-known k = sym (rw (o, sym known-told ∙ k))
 
       module _ (k : e .known ≡ false) where
-        pub visit-new : count < e .count → record { known = false; count = e .count; next = next } ≡ visited sort first bytes table count place next
+        pub visit-new : count < e .count → record { own = true; known = false; count = e .count; next = next } ≡ visited sort first bytes table count place next
         unfolding visited isLeftOut _and_ choose
         visit-new h =
             let f = grows (isNew first (numbering sort) bytes table count place) count-told h in
             let g = sym known-told ∙ k in
             rw (o, g, f, q, i)
 
-        without : (n : ℕ) → e .count ≤ count → n ≡ lesser next place → record { known = false; count = count; next = n } ≡ visited sort first bytes table count place next
+        without : (n : ℕ) → e .count ≤ count → n ≡ lesser next place → record { own = true; known = false; count = count; next = n } ≡ visited sort first bytes table count place next
         unfolding visited isLeftOut entryOf _and_ choose
         without n h l =
             let f = stays (isNew first (numbering sort) bytes table count place) count-told h in
             let g = sym known-told ∙ k in
             rw (o, g, f, l)
 
-        pub visit-left : e .count ≤ count → place < next → record { known = false; count = count; next = place } ≡ visited sort first bytes table count place next
+        pub visit-left : e .count ≤ count → place < next → record { own = true; known = false; count = count; next = place } ≡ visited sort first bytes table count place next
         visit-left h l = without place h (omega arith)
 
-        pub visit-left-more : e .count ≤ count → next ≤ place → record { known = false; count = count; next = next } ≡ visited sort first bytes table count place next
+        pub visit-left-more : e .count ≤ count → next ≤ place → record { own = true; known = false; count = count; next = next } ≡ visited sort first bytes table count place next
         visit-left-more h l = without next h (omega arith)
 
   -- and what they say

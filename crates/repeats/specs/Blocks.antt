@@ -33,9 +33,11 @@ module _ (sort : Sort) (first : ℕ) (bytes table : List ℕ) (count place : ℕ
   isLeftOut =
       isOf sort (recordAt first place bytes) and not (isKnown first (numbering sort) bytes table count place) and not (isNew first (numbering sort) bytes table count place)
 
-  -- what is known after the record: whether the table holds its number, how many places it holds, and the first record that was left out
+  -- what is known after the record: whether it is of the sort, whether the table holds its number, how many places it holds, and the first
+  -- record that was left out
   unfoldable pub visited : ℕ → Visited
   visited next = record {
+    own = isOf sort (recordAt first place bytes);
     known = isOf sort (recordAt first place bytes) and isKnown first (numbering sort) bytes table count place;
     count = choose (isOf sort (recordAt first place bytes)) (entryOf first (numbering sort) bytes table count place .count) count;
     next = choose isLeftOut (lesser next place) next;

@@ -1,6 +1,7 @@
 -- How the batches from a start on are marked, block by block. No promise to other crates rests on it.
 use Prim.Native.Nat.{ℕ, zero, suc, _+_, _-_, _/_}
 use mathlib.Core.Path.{_≡_}
+use mathlib.Core.Bool.{Bool}
 use mathlib.Core.List.{List, [], _∷_, _++_}
 use lib.Dec.{leb}
 use lib.ListN.{length}
@@ -15,11 +16,11 @@ unfoldable pub zeros : ℕ → List ℕ
 zeros zero = []
 zeros (suc n) = 0 ∷ zeros n
 
-module _ (file : List ℕ) where
-  -- the index of the next flag after the record at the place, which has one if it is a header from the start on
-  abbrev pub indexAfter : ℕ → ℕ → ℕ → ℕ
-  indexAfter start place index = choose (leb start place) (choose (isOf Batches (recordAt 1 place file)) (index + 1) index) index
+-- the index of the next flag after the record at the place, which has one if it is a header from the start on
+abbrev pub indexAfter : ℕ → ℕ → Bool → ℕ → ℕ
+indexAfter start place heads index = choose (leb start place) (choose heads (index + 1) index) index
 
+module _ (file : List ℕ) where
   -- the flag of the header at the place, as far as the numbers before the limit tell
   abbrev pub flagAt : ℕ → ℕ → ℕ
   flagAt limit place = choose (meets Batches 1 file 0 (lesser limit place) place) 1 0

@@ -18,9 +18,10 @@ ghost use Rattle.repeats.specs.Blocks.{visited, tableVisited, Blocked};
 // The numbers that a block has room for.
 pub(crate) const TABLE: usize = 4096;
 
-// What is known after a record of a block: whether the table holds its number, the places in the table, and the first record that found no
-// room.
+// What is known after a record of a block: whether it is of the sort, whether the table holds its number, the places in the table, and the
+// first record that found no room.
 pub(crate) struct Visited {
+    pub(crate) own: bool,
     pub(crate) known: bool,
     pub(crate) count: usize,
     pub(crate) next: usize,
@@ -48,6 +49,7 @@ pub(crate) fn visit(
 {
     if !is_of(file, first, place, sort) {
         return Visited {
+            own: false,
             known: false,
             count,
             next,
@@ -57,6 +59,7 @@ pub(crate) fn visit(
     let entry = enter(file, first, place, field, table, count);
     if entry.known {
         return Visited {
+            own: true,
             known: true,
             count,
             next,
@@ -64,6 +67,7 @@ pub(crate) fn visit(
     }
     if count < entry.count {
         return Visited {
+            own: true,
             known: false,
             count: entry.count,
             next,
@@ -71,12 +75,14 @@ pub(crate) fn visit(
     }
     if place < next {
         return Visited {
+            own: true,
             known: false,
             count,
             next: place,
         };
     }
     Visited {
+        own: true,
         known: false,
         count,
         next,

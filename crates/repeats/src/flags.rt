@@ -3,13 +3,11 @@
 use crate::Sort;
 use crate::blocks::TABLE;
 use crate::blocks::visit;
-use crate::walk::is_of;
 ghost use mathlib.Core.Path.{_≡_};
 ghost use Prim.Native.Nat.{_+_, _*_, _/_, _<_, _≤_};
 ghost use lib.Dec.{ltb};
 ghost use lib.ListN.{length, set};
 ghost use Rattle.record.specs.Choice.{choose};
-ghost use Rattle.tables.specs.Tables.{Stands};
 ghost use Rattle.repeats.specs.declared.Sort.the-variants.{Batches};
 ghost use Rattle.repeats.specs.Repeats.{numbers};
 ghost use Rattle.repeats.specs.Blocks.{between};
@@ -34,14 +32,14 @@ fn clear(flags: &mut [u8])
 }
 
 // The index of the next flag after the record at the place, which has one if it is a header from the start on.
-fn index_after(file: &[u8], start: usize, place: usize, index: usize) -> usize
-    requires { ⌜ Stands 1 place (now file) × (index < 65536) ⌝ }
-    ensures { λ r. ⌜ r ≡ indexAfter (now (file .entry)) start place index ⌝ }
+fn index_after(start: usize, place: usize, heads: bool, index: usize) -> usize
+    requires { ⌜ index < 65536 ⌝ }
+    ensures { λ r. ⌜ r ≡ indexAfter start place heads index ⌝ }
 {
     if place < start {
         return index;
     }
-    if is_of(file, 1, place, Sort::Batches) {
+    if heads {
         return index + 1;
     }
     index
@@ -87,7 +85,7 @@ fn mark_block(file: &[u8], start: usize, from: usize, index: usize, flags: &mut 
     let mut place = from;
     while place < records {
         let seen = visit(file, 1, place, Sort::Batches, &mut table, count, next);
-        let after = index_after(file, start, place, flag);
+        let after = index_after(start, place, seen.own, flag);
         set_flag(flags, flag, after, seen.known);
         kept = kept_index(place, seen.next, kept, after);
         count = seen.count;

@@ -1,6 +1,6 @@
 use Prim.Native.Nat.{_-_}
 use lib.ListN.{length}
-use Rattle.repeats.proofs.Flagging.{InMarking, marking-begun, index-few, marking-stands, flag-fits, marking-next, marking-length, marking-end, kept-end}
+use Rattle.repeats.proofs.Flagging.{InMarking, marking-begun, index-few, flag-fits, marking-next, marking-length, marking-end, kept-end}
 use Rattle.repeats.proofs.Visits.{filling-tabled}
 use borrow.Author.Needs.{needs}
 use Rattle.repeats.proofs.flags.mark_block.Statement.{statement}
@@ -23,7 +23,7 @@ visit-requires : tie.Need-visit-requires Inv-loop μ-loop
 visit-requires c κs = search (needs, filling-tabled)
 
 index-after-requires : tie.Need-index-after-requires Inv-loop μ-loop
-index-after-requires c κs = search (needs, index-few, marking-stands)
+index-after-requires c κs = search (needs, index-few)
 
 set-flag-requires : tie.Need-set-flag-requires Inv-loop μ-loop
 set-flag-requires c κs = search (needs, flag-fits)
