@@ -13,7 +13,7 @@ use lib.Dec.{eqb}
 use lib.ListN.{length, getD, set, length-set}
 use lib.Seq.{getD-set-same, getD-set-other}
 use Rattle.record.specs.Choice.{_and_}
-use Rattle.record.proofs.Chain.{and-left, and-right}
+use Rattle.record.proofs.Chain.{and-yes, and-left, and-right}
 use Rattle.repeats.specs.Sieve.{marked, isMarked, hasNext, withNext, markCount, hasMarks, withMarks}
 
 -- the mask of a slot, as the code makes it
@@ -162,28 +162,24 @@ next-keeps zero rest sieve slot n e = e
 next-keeps (suc left) rest sieve slot n e =
     next-keeps left (rest / 32) (marked sieve (rest % 65536)) slot (mark-length sieve (rest % 65536) n) (mark-keeps sieve n (rest % 65536) (omega arith) slot e)
 
-both : (a b : Bool) → a ≡ true → b ≡ true → (a and b) ≡ true
-unfolding _and_
-both a b p q = rw (p, q)
-
 next-own : (left rest : ℕ) (sieve : List ℕ) → length sieve ≡ 1024 → hasNext (withNext sieve left rest) left rest ≡ true
 unfolding hasNext withNext
 next-own zero rest sieve n = refl
 next-own (suc left) rest sieve n =
     let slot = rest % 65536 in
     let m = mark-length sieve slot n in
-    both _ _
+    sym (and-yes _ _ true
     (next-keeps left (rest / 32) (marked sieve slot) slot m (mark-own sieve n slot (omega arith)))
-    (next-own left (rest / 32) (marked sieve slot) m)
+    (sym (next-own left (rest / 32) (marked sieve slot) m)))
 
 module _ (sieve : List ℕ) (n : length sieve ≡ 1024) (hash : ℕ) where
   kept-next : (left rest : ℕ) → hasNext sieve left rest ≡ true → hasNext (withMarks sieve hash) left rest ≡ true
   unfolding hasNext withMarks
   kept-next zero rest e = refl
   kept-next (suc left) rest e =
-      both _ _
+      sym (and-yes _ _ true
       (next-keeps markCount hash sieve (rest % 65536) n (and-left _ _ e))
-      (kept-next left (rest / 32) (and-right _ _ e))
+      (sym (kept-next left (rest / 32) (and-right _ _ e))))
 
   pub marks-length : length (withMarks sieve hash) ≡ 1024
   unfolding withMarks

@@ -190,7 +190,7 @@ fn pass(part: &[u8], first: usize, classes: u64, class: u64, best: usize, walks:
 }
 
 // The first repeat. A class for 8,192 records: at least every second record of a batch is no detail (01 Nesting), so that some 4,000 IDs
-// share a sieve of 65,536 bits, and a new ID meets seven marks of others about once in 1,400 times at the end of a pass. A batch of more
+// share a sieve of 65,536 bits, and a new ID meets seven marks of others about once in 1,250 times near the end of a pass. A batch of more
 // suspects than the budget has walks, as IDs of one hash make it, is sought by blocks. The first class stands apart: a function that is called in
 // two places keeps a frame of its own, so that the sieve is on the stack only while it is used, and not while a batch is walked.
 pub(crate) fn first_by_classes(part: &[u8], first: usize) -> Repeat
