@@ -10,6 +10,7 @@ use Rattle.record.specs.declared.codes.Letter.{Letter}
 use Rattle.record.specs.declared.codes.Letter.the-variants.{N}
 use Rattle.record.specs.declared.codes.Code.{Code}
 use Rattle.record.specs.declared.codes.Code.the-variants as code
+use Rattle.record.specs.Choice.{choose}
 use Rattle.record.specs.Fields.{paymentId}
 use Rattle.record.specs.Value.{held}
 use Rattle.record.specs.Codes.{letterByte, codeBytes, codeOf}
@@ -20,14 +21,14 @@ use Rattle.nesting.specs.Division.{Record, All, DX, DT, DP, Own, Payment, Batch
 use Rattle.nesting.specs.Paid.{paid, paidBy}
 use Rattle.nesting.proofs.Coding.{of-bytes, lettered}
 use Rattle.reasons.specs.declared.Finding.{Finding}
-use Rattle.reasons.specs.Findings.{sound, first, after}
+use Rattle.reasons.specs.Findings.{found, sound, first, after}
 use Rattle.reasons.proofs.Firsts.{after-append, after-sound}
 use Rattle.rules.specs.declared.Context.{Context}
 use Rattle.rules.specs.Rules.{Rule, header, detail, party, account, trailer, rulesFor, findings}
 use Rattle.batch.specs.declared.payment.Open.{Open}
 use Rattle.batch.specs.declared.walk.Header.{Header}
 use Rattle.batch.specs.declared.walk.State.{State}
-use Rattle.batch.specs.Batch.{letterOf, size, sizes, accountCount, context, noCodes, payer, headerCodes, accountContext, detailContext, each, eachProcurement, payment, tooMany, summary}
+use Rattle.batch.specs.Batch.{letterOf, size, sizes, accountCount, context, noCodes, payer, headerCodes, accountContext, detailContext, each, eachProcurement, payment, summary}
 use Rattle.batch.specs.Walk.{opened, withAccount, ended, contextOf, state, knowing, head, opening, payerIn, payingContext, detailed, partied, accounted, nextProcurement, procured, last, trailed, stepOf, run}
 use Rattle.batch.proofs.Marked.{markedPayments, markedFindings}
 use Rattle.batch.proofs.Ends.{none-more, one-more, after-none, grown, foundIn, plusParty, plusAccount, plusProcurement, parties-end, accounts-keep, endOf, sums-end, empty-end, letterless, same, findBy, found-each, found-procurements}
@@ -38,10 +39,10 @@ unfolding total
 total-more f [] p = omega arith
 total-more f (q ∷ ps) p = rw (total-more f ps p) (omega arith)
 
-module _ (book : Contents) where
-  -- what the walk knows after the earlier payments of a batch: its header is record k, and with the open payment closed the findings come to g
+module _ (book : Contents) (crowded : Bool) where
+  -- what the walk knows after the earlier payments of a batch, of which it was told so: its header is record k, and with the open payment closed the findings come to g
   record Knows (h : Record) (k : ℕ) (earlier : List Payment) (g : Finding) (s : State) : Type 0 where
-    header : s .header ≡ head book k h
+    header : s .header ≡ head book crowded k h
     payments : s .payments ≡ length earlier
     total : s .total ≡ split (paidBy earlier)
     accounts : s .accounts ≡ accountCount earlier
@@ -51,30 +52,30 @@ module _ (book : Contents) where
   abbrev begin : Bool → ℕ → Record → List Finding
   begin repeats n h = findings (context h repeats false (headerCodes book h) []) n h (rulesFor (letterOf h) header)
 
-  at-header : (repeats : Bool) (n : ℕ) (h : Record) → Knows h n [] (after sound (begin repeats n h)) (opening book repeats n h)
+  at-header : (repeats : Bool) (n : ℕ) (h : Record) → Knows h n [] (after sound (begin repeats n h)) (opening book repeats crowded n h)
   unfolding opening context headerCodes letterOf paidBy accountCount total
   at-header repeats n h = record { header = refl; payments = refl; total = refl; accounts = refl; finding = empty-end _ n _ refl }
 
   -- what is found at the trailer, record n
   abbrev ends : Record → ℕ → List Payment → ℕ → Record → List Finding
   ends h k ps n r =
-      tooMany k ps
+      found (choose crowded 12 0) k 76
       ∷ (findings (context h false false noCodes ps) n r (rulesFor (letterOf h) trailer)
       ++ summary k h ps
       ∷ [])
 
   at-trailer : (h : Record) (k : ℕ) (ps : List Payment) (g : Finding) (s : State) → Knows h k ps g s → (n : ℕ) (r : Record)
       → let t = trailed s n r in
-      (t .finding ≡ after g (ends h k ps n r)) × (t .payments ≡ length ps) × (t .total ≡ split (paidBy ps))
-  unfolding trailed last knowing contextOf head context letterOf tooMany summary trailer
+      (t .finding ≡ after g (ends h k ps n r)) × (t .payments ≡ length ps) × (t .total ≡ split (paidBy ps)) × (t .accounts ≡ accountCount ps)
+  unfolding trailed last knowing contextOf head context letterOf summary trailer
   at-trailer h k ps g s w n r =
       let e = letterless (letterOf h) trailer (refl, (refl, tt)) in
-      (rw (w .header, w .payments, w .total, w .accounts, w .finding, e) (simp worth-split), w .payments, w .total)
+      (rw (w .header, w .payments, w .total, w .finding, e) (simp worth-split), w .payments, w .total, w .accounts)
 
   -- the walk at a detail that follows the earlier payments
   abbrev begun : Record → ℕ → List Payment → Finding → ℕ → Payment → Context → State
   begun h k earlier g n p c =
-      state (after g (findings c n (p .detail) (rulesFor (letterOf h) detail))) (head book k h) (opened n c (split (paid p)))
+      state (after g (findings c n (p .detail) (rulesFor (letterOf h) detail))) (head book crowded k h) (opened n c (split (paid p)))
       (length earlier + 1) (split (paidBy earlier + paid p)) (accountCount earlier)
 
   at-detail : (h : Record) (k : ℕ) (earlier : List Payment) (g : Finding) (s : State) → Knows h k earlier g s
@@ -259,25 +260,26 @@ module _ (book : Contents) where
         (run-payments h k (earlier ++ p ∷ []) _ (one .end) (one .known) l (n + size p) ps (legal .1) ys)
 
 -- a batch
-pub adequate : (book : Contents) (repeats : Bool) (marks : ℕ → Bool) (n : ℕ) (b : Batch) → LegalBatch b
-    → (s : State) → s ≡ run book marks (n + 1) (opening book repeats n (b .header)) (paymentsOnto (b .payments) (b .trailer ∷ []))
-    → (s .finding ≡ first (markedFindings book repeats marks n b)) × (s .payments ≡ length (b .payments)) × (s .total ≡ split (paidBy (b .payments)))
+pub adequate : (book : Contents) (repeats crowded : Bool) (marks : ℕ → Bool) (n : ℕ) (b : Batch) → LegalBatch b
+    → (s : State) → s ≡ run book marks (n + 1) (opening book repeats crowded n (b .header)) (paymentsOnto (b .payments) (b .trailer ∷ []))
+    → (s .finding ≡ first (markedFindings book repeats crowded marks n b)) × (s .payments ≡ length (b .payments)) × (s .total ≡ split (paidBy (b .payments)))
+    × (s .accounts ≡ accountCount (b .payments))
 unfolding run stepOf codeBytes markedFindings
-adequate book repeats marks n b legal s e =
+adequate book repeats crowded marks n b legal s e =
     let h = b .header in
     let ps = b .payments in
     let r = b .trailer in
     let m = n + 1 + sizes ps in
-    let xs = begin book repeats n h in
+    let xs = begin book crowded repeats n h in
     let ys = markedPayments book marks h (n + 1) [] ps in
-    let zs = ends book h n ps m r in
+    let zs = ends book crowded h n ps m r in
     let l = lettered (legal .letter) (legal .listed) in
     let paying : All (LegalPayment (letterByte (l .0))) ps = rw (← (l .1)) (legal .payments) in
-    let walked = run-payments book marks h n [] (after sound xs) _ (at-header book repeats n h) (l .0) (n + 1) ps paying (r ∷ []) in
+    let walked = run-payments book crowded marks h n [] (after sound xs) _ (at-header book crowded repeats n h) (l .0) (n + 1) ps paying (r ∷ []) in
     let t = walked .end in
     let q : s ≡ trailed t m r =
-    e ∙ walked .ran ∙ run-step book marks m t r [] code.BatchTrailer (of-bytes code.BatchTrailer r (legal .trailer)) refl in
-    let known = at-trailer book h n ps (after (after sound xs) ys) t (walked .known) m r in
+    e ∙ walked .ran ∙ run-step book crowded marks m t r [] code.BatchTrailer (of-bytes code.BatchTrailer r (legal .trailer)) refl in
+    let known = at-trailer book crowded h n ps (after (after sound xs) ys) t (walked .known) m r in
     let joined : after (after (after sound xs) ys) zs ≡ first (xs ++ (ys ++ zs)) =
     sym (after-append (after sound xs) ys zs) ∙ sym (after-append sound xs (ys ++ zs)) ∙ after-sound (xs ++ (ys ++ zs)) in
-    (ap (λ (u : State). u .finding) q ∙ known .0 ∙ joined, ap (λ (u : State). u .payments) q ∙ known .1, ap (λ (u : State). u .total) q ∙ known .2)
+    (ap (λ (u : State). u .finding) q ∙ known .0 ∙ joined, ap (λ (u : State). u .payments) q ∙ known .1, ap (λ (u : State). u .total) q ∙ known .2, ap (λ (u : State). u .accounts) q ∙ known .3)

@@ -5,14 +5,17 @@ use mathlib.Core.Bool.{Bool, true, false, true≢false}
 use mathlib.Core.List.{List, [], _∷_, _++_, tail}
 use Prim.Native.Nat.{ℕ, suc, _+_, _*_, _-_, _/_, _≤_, _<_}
 use native.Mathlib.Omega.{arith}
+use borrow.Author.Tests.{ltb-false}
+use lib.Dec.{ltb}
 use lib.ListN.{length, take, drop, getD}
 use lib.Seq.{take-at, length-take-le}
-use Rattle.record.specs.Choice.{_and_, choose}
+use Rattle.record.specs.Choice.{_and_, _or_, choose}
 use Rattle.record.specs.Value.{seen}
 use Rattle.book.specs.Book.{Contents}
 use Rattle.nesting.specs.Division.{Record, Batch, paymentsOnto, batchLines}
 use Rattle.nesting.specs.Records.{lineOf, cut}
 use Rattle.nesting.proofs.Cuts.{cut-part}
+use Rattle.kinds.specs.Kinds.{kinds, crowded}
 use Rattle.repeats.specs.declared.Repeat.{Repeat}
 use Rattle.repeats.specs.declared.Repeat.the-variants.{At, Nowhere}
 use Rattle.repeats.specs.declared.Sort.the-variants.{Payments}
@@ -21,16 +24,21 @@ use Rattle.repeats.specs.Repeats.{numbers, firstRepeat}
 use Rattle.repeats.specs.Climb.{climbedBy}
 use Rattle.repeats.proofs.Looks.{topped-none}
 use Rattle.repeats.proofs.Climbs.{climb-other, climb-clean}
-use Rattle.reasons.specs.Findings.{first}
 use Rattle.batch.specs.declared.Row.{Row}
 use Rattle.batch.specs.declared.Seeking.{Seeking}
+use Rattle.batch.specs.declared.pass.Told.{Told}
 use Rattle.batch.specs.declared.pass.Walked.{Walked}
-use Rattle.batch.specs.Batch.{BatchOf, Judgeable, IsRow, rowOf}
-use Rattle.batch.specs.Walk.{isAt, opening, run, noClimb, toTrailer, walkedOver, walkOf, isSomewhere, firstIn, sought, rowAt}
-use Rattle.batch.proofs.Marked.{markedFindings}
+use Rattle.batch.specs.Batch.{accountCount, accountKinds, BatchOf, Judgeable, IsRow, rowOf}
+use Rattle.batch.specs.Walk.{isAt, opening, run, noClimb, toTrailer, walkedOver, walkOf, isSomewhere, firstIn, crowdedIn, isTold, learnt, sought, rowAt}
 use Rattle.batch.proofs.Repeated.{header-none, first-repeat-enough}
 use Rattle.batch.proofs.Adequate.{adequate}
+use Rattle.batch.proofs.Accounts.{batch-kinds, few-accounts}
 use Rattle.batch.proofs.Trailers.{to-trailer, records-are}
+
+-- what is told of a batch is so
+pub record Right (n : ℕ) (b : Batch) (told : Told) : Type 0 where
+  pub repeat : told .repeat ≡ firstRepeat Payments n [] (batchLines b)
+  pub kinds : told .crowded ≡ crowded (accountKinds (b .payments))
 
 -- the bytes of so many records
 abbrev partOf : List ℕ → ℕ → List ℕ
@@ -54,12 +62,12 @@ module _ (rest : List ℕ) (n : ℕ) (b : Batch) (h : BatchOf n rest b) where
   others-are : toTrailer (cut (n + 1) (length rest / 850 - 1) (drop 850 rest)) ≡ others
   others-are = ap (λ (rs : List Record). toTrailer (tail rs)) (sym lines-are) ∙ to-trailer b (h .legal) (h .more)
 
-  module _ (book : Contents) (repeats : Bool) (repeat : Repeat) (w : Walked) (e : w ≡ walkOf book repeats repeat n rest) where
-    walk-is : w ≡ walkedOver book repeat (n + 1) (record { state = opening book repeats n (b .header); climbing = noClimb; records = 1 }) others
+  module _ (book : Contents) (repeats : Bool) (told : Told) (w : Walked) (e : w ≡ walkOf book repeats told n rest) where
+    walk-is : w ≡ walkedOver book told (n + 1) (record { state = opening book repeats (told .crowded) n (b .header); climbing = noClimb; records = 1 }) others
     unfolding walkOf
     walk-is = e ∙ rw (others-are, header-is)
 
-    state-is : w .state ≡ run book (isAt repeat) (n + 1) (opening book repeats n (b .header)) others
+    state-is : w .state ≡ run book (isAt (told .repeat)) (n + 1) (opening book repeats (told .crowded) n (b .header)) others
     unfolding walkedOver
     state-is = ap (λ (x : Walked). x .state) walk-is
 
@@ -73,6 +81,9 @@ module _ (rest : List ℕ) (n : ℕ) (b : Batch) (h : BatchOf n rest b) where
         let q : 1 + length others ≡ length (batchLines b) = omega arith in
         ap (λ (x : Walked). x .records) walk-is ∙ q
 
+    accounts-are : w .state .accounts ≡ accountCount (b .payments)
+    accounts-are = adequate book repeats (told .crowded) (isAt (told .repeat)) n b (h .legal) (w .state) state-is .3
+
     -- where the Payment IDs climb, none repeats
     climb-told : w .climbing .falls ≡ false → Nowhere ≡ firstRepeat Payments n [] (batchLines b)
     unfolding climbedBy numbers
@@ -82,31 +93,41 @@ module _ (rest : List ℕ) (n : ℕ) (b : Batch) (h : BatchOf n rest b) where
         sym (ap (λ (x : Climbing). climbedBy others x .falls) o) ∙ sym (ap (λ (x : Climbing). x .falls) climbing-is) ∙ f in
         sym (climb-clean n [] (batchLines b) noClimb refl (topped-none _) c)
 
-    -- a repeat that was sought in the bytes of the batch is the batch's
-    sought-told : (sought : Repeat) → sought ≡ firstRepeat Payments n [] (cut n (length (partOf rest (w .records)) / 850) (partOf rest (w .records)))
-        → sought ≡ firstRepeat Payments n [] (batchLines b)
-    sought-told sought q = q ∙ ap (firstRepeat Payments n []) part-is
-      where
-        part-is : cut n (length (partOf rest (w .records)) / 850) (partOf rest (w .records)) ≡ batchLines b
-        part-is =
-            let k = length (batchLines b) in
-            let l : length (take (k * 850) rest) ≡ k * 850 = length-take-le (k * 850) rest (omega (arith, records-are h)) in
-            let s : length (take (k * 850) rest) / 850 ≡ k = omega (arith, l) in
-            let m : n + 0 ≡ n = omega arith in
-            let c : take k (cut n (length rest / 850) rest) ≡ cut n k (take (k * 850) rest) =
-            cut-part n 0 k (length rest / 850) rest (omega (arith, records-are h)) (omega arith) ∙ ap (λ (j : ℕ). cut j k (take (k * 850) rest)) m in
-            rw (size-is, s) (sym c ∙ rw (← h .whole) (take-at (batchLines b) (h .more) k refl))
+    -- the records of the walk's bytes are the batch's
+    part-is : cut n (length (partOf rest (w .records)) / 850) (partOf rest (w .records)) ≡ batchLines b
+    part-is =
+        let k = length (batchLines b) in
+        let l : length (take (k * 850) rest) ≡ k * 850 = length-take-le (k * 850) rest (omega (arith, records-are h)) in
+        let s : length (take (k * 850) rest) / 850 ≡ k = omega (arith, l) in
+        let m : n + 0 ≡ n = omega arith in
+        let c : take k (cut n (length rest / 850) rest) ≡ cut n k (take (k * 850) rest) =
+        cut-part n 0 k (length rest / 850) rest (omega (arith, records-are h)) (omega arith) ∙ ap (λ (j : ℕ). cut j k (take (k * 850) rest)) m in
+        rw (size-is, s) (sym c ∙ rw (← h .whole) (take-at (batchLines b) (h .more) k refl))
 
-    -- the row of a walk that was told of the first repeat
-    told-row : repeat ≡ firstRepeat Payments n [] (batchLines b) → (row : Row) → row ≡ rowAt (w .state) n (w .records) → row ≡ rowOf book repeats n b
+    -- what is learnt after the walk is so, whatever it was told
+    learnt-right : Right n b (learnt (w .climbing .falls) (w .state .accounts) n (partOf rest (w .records)))
+    unfolding learnt choose _and_
+    learnt-right = record { repeat = fell (w .climbing .falls) refl; kinds = counted (ltb 1000 (w .state .accounts)) refl }
+      where
+        fell : (y : Bool) → w .climbing .falls ≡ y → choose y (firstIn n (partOf rest (w .records))) Nowhere ≡ firstRepeat Payments n [] (batchLines b)
+        fell true f = ap (firstRepeat Payments n []) part-is
+        fell false f = climb-told f
+
+        counted : (y : Bool) → ltb 1000 (w .state .accounts) ≡ y → (y and crowdedIn n (partOf rest (w .records))) ≡ crowded (accountKinds (b .payments))
+        counted true f = ap (λ (rs : List Record). crowded (kinds rs)) part-is ∙ ap crowded (batch-kinds b (h .legal))
+        counted false f = sym (few-accounts (b .payments) (omega (arith, accounts-are, ltb-false 1000 (w .state .accounts) f)))
+
+    -- the row of a walk that was told so
+    told-row : Right n b told → (row : Row) → row ≡ rowAt (w .state) n (w .records) → row ≡ rowOf book repeats n b
     unfolding rowAt rowOf
-    told-row marks row q =
-        let a = adequate book repeats (isAt repeat) n b (h .legal) (w .state) state-is in
-        let f = a .0 ∙ ap (λ (r : Repeat). first (markedFindings book repeats (isAt r) n b)) marks ∙ first-repeat-enough book repeats n b (h .legal) in
+    told-row t row q =
+        let a = adequate book repeats (told .crowded) (isAt (told .repeat)) n b (h .legal) (w .state) state-is in
+        let m = rw (t .repeat, t .kinds) at (a .0) in
+        let f = m ∙ first-repeat-enough book repeats n b (h .legal) in
         let c = size-is in
         let p = a .1 in
-        let t = a .2 in
-        q ∙ λ i. record { first_record = n; records = c i; payments = p i; total = t i; finding = f i }
+        let s = a .2 in
+        q ∙ λ i. record { first_record = n; records = c i; payments = p i; total = s i; finding = f i }
 
 -- what is left to do after a walk, as the code finds it
 pub at-is : (r : Repeat) (k : ℕ) → r ≡ At k → true ≡ isSomewhere r
@@ -117,50 +138,54 @@ pub nowhere-is : (r : Repeat) → r ≡ Nowhere → false ≡ isSomewhere r
 unfolding isSomewhere
 nowhere-is r e = rw e
 
-module _ (told first : Repeat) (falls t : Bool) (e : t ≡ isSomewhere told) where
-  pub seek-told : t ≡ true → record { repeat = told; again = false } ≡ sought told first falls
-  unfolding sought choose _and_
+module _ (told : Told) (n records : ℕ) (rest : List ℕ) (falls : Bool) (accounts : ℕ) (t : Bool) (e : t ≡ isTold told) where
+  pub seek-told : t ≡ true → record { told = told; again = false } ≡ sought told (learnt falls accounts n (partOf rest records))
+  unfolding sought choose
   seek-told o = rw (← e, o)
 
-  pub seek-climbed : t ≡ false → falls ≡ false → record { repeat = told; again = false } ≡ sought told first falls
-  unfolding sought choose _and_
-  seek-climbed o f = rw (← e, o, f)
+  -- the bytes of the batch, as the code takes them
+  abbrev part : List ℕ
+  part = take (records * 850 - 0) (drop 0 rest)
 
-pub seek-fallen : (told : Repeat) (n records : ℕ) (rest : List ℕ) (falls t u : Bool) (first : Repeat) → t ≡ isSomewhere told → t ≡ false → falls ≡ true
-    → first ≡ firstIn n (take (records * 850 - 0) (drop 0 rest)) → u ≡ isSomewhere first → record { repeat = first; again = u } ≡ sought told (firstIn n (take (records * 850) rest)) falls
-unfolding sought choose _and_
-seek-fallen told n records rest falls t u first e o f q z =
-    let m : records * 850 - 0 ≡ records * 850 = omega arith in
-    let k : first ≡ firstIn n (take (records * 850) rest) = q ∙ ap (λ (i : ℕ). firstIn n (take i rest)) m in
-    rw (← e, o, f, z, ← k)
+  pub seek-learnt : t ≡ false → (r : Repeat) (x : Bool) (s : Seeking) → r ≡ choose falls (firstIn n part) Nowhere → x ≡ (ltb 1000 accounts and crowdedIn n part)
+      → s ≡ record { told = record { repeat = r; crowded = x }; again = isTold (record { repeat = r; crowded = x }) } → s ≡ sought told (learnt falls accounts n (partOf rest records))
+  unfolding sought learnt choose
+  seek-learnt o r x s p q z =
+      let m : records * 850 - 0 ≡ records * 850 = omega arith in
+      z ∙ rw (← e, o, p, q, m)
 
--- what a walk is told: nothing, or the batch's first repeat
-pub data Told (n : ℕ) (rest : List ℕ) (repeat : Repeat) : Type 0 where
-  nothing : repeat ≡ Nowhere → Told n rest repeat
-  first-one : isSomewhere repeat ≡ true → ((b : Batch) → BatchOf n rest b → repeat ≡ firstRepeat Payments n [] (batchLines b)) → Told n rest repeat
+-- what a walk is told: nothing, or all that is so
+pub data Known (n : ℕ) (rest : List ℕ) (told : Told) : Type 0 where
+  nothing : isTold told ≡ false → told ≡ record { repeat = Nowhere; crowded = false } → Known n rest told
+  something : isTold told ≡ true → ((b : Batch) → BatchOf n rest b → Right n b told) → Known n rest told
 
-nowhere : (r : Repeat) → isSomewhere r ≡ false → r ≡ Nowhere
-unfolding isSomewhere
-nowhere (At k) e = absurd (true≢false e)
-nowhere Nowhere e = refl
+none-told : (t : Told) → isTold t ≡ false → t ≡ record { repeat = Nowhere; crowded = false }
+unfolding isTold isSomewhere _or_
+none-told t e = go (t .repeat) (t .crowded) refl refl
+  where
+    go : (r : Repeat) (c : Bool) → t .repeat ≡ r → t .crowded ≡ c → t ≡ record { repeat = Nowhere; crowded = false }
+    go r true f g = absurd (true≢false (rw g at e))
+    go (At k) false f g = absurd (true≢false (rw (f, g) at e))
+    go Nowhere false f g = λ i. record { repeat = f i; crowded = g i }
 
 -- before each walk it is told so; after the last the row is the batch's
-pub record Judging (book : Contents) (repeats : Bool) (n : ℕ) (rest : List ℕ) (row : Row) (repeat : Repeat) (again : Bool) : Type 0 where
-  pub told : again ≡ true → Told n rest repeat
+pub record Judging (book : Contents) (repeats : Bool) (n : ℕ) (rest : List ℕ) (row : Row) (told : Told) (again : Bool) : Type 0 where
+  pub known : again ≡ true → Known n rest told
   pub done : again ≡ false → IsRow book repeats n rest row
 
 -- the walks that may still come
-abbrev pub walksLeft : Repeat → Bool → ℕ
-walksLeft repeat again = choose again (choose (isSomewhere repeat) 1 2) 0
+abbrev pub walksLeft : Told → Bool → ℕ
+walksLeft told again = choose again (choose (isTold told) 1 2) 0
 
 module _ (book : Contents) (repeats : Bool) {n : ℕ} {rest : List ℕ} where
-  pub judging-begun : (row : Row) → Judging book repeats n rest row Nowhere true
-  judging-begun row = record { told = λ e. nothing refl; done = λ e. absurd (true≢false e) }
+  pub judging-begun : (row : Row) → Judging book repeats n rest row (record { repeat = Nowhere; crowded = false }) true
+  unfolding isTold isSomewhere _or_
+  judging-begun row = record { known = λ e. nothing refl refl; done = λ e. absurd (true≢false e) }
 
-  module _ (repeat : Repeat) {w : Walked} (j : Judgeable n rest) (e : w ≡ walkOf book repeats repeat n rest) where
+  module _ (told : Told) {w : Walked} (j : Judgeable n rest) (e : w ≡ walkOf book repeats told n rest) where
     -- a walk ends within the bytes
     pub end-within : w .records * 850 ≤ length rest
-    end-within = let h = j .batch .1 in omega (arith, size-is rest n (j .batch .0) h book repeats repeat w e, records-are h)
+    end-within = let h = j .batch .1 in omega (arith, size-is rest n (j .batch .0) h book repeats told w e, records-are h)
 
     pub rest-few : length rest ≤ 65535 * 850
     rest-few = omega (arith, j .few, j .numbered, j .whole)
@@ -168,58 +193,43 @@ module _ (book : Contents) (repeats : Bool) {n : ℕ} {rest : List ℕ} where
     pub first-few : n ≤ 65536
     first-few = omega (arith, j .few)
 
-    module _ {row : Row} {again : Bool} (g : Judging book repeats n rest row repeat again) (t : again ≡ true) (next : Seeking)
-        (s : next ≡ sought repeat (firstIn n (partOf rest (w .records))) (w .climbing .falls)) where
-      abbrev found : Repeat
-      found = firstIn n (partOf rest (w .records))
+    module _ {row : Row} {again : Bool} (g : Judging book repeats n rest row told again) (t : again ≡ true) (next : Seeking)
+        (s : next ≡ sought told (learnt (w .climbing .falls) (w .state .accounts) n (partOf rest (w .records)))) where
+      abbrev found : Told
+      found = learnt (w .climbing .falls) (w .state .accounts) n (partOf rest (w .records))
 
-      -- what is left to do, by what the walk was told and whether an ID fell
-      after-told : isSomewhere repeat ≡ true → next ≡ record { repeat = repeat; again = false }
-      unfolding sought choose _and_
+      -- what is left to do, by what the walk was told
+      after-told : isTold told ≡ true → next ≡ record { told = told; again = false }
+      unfolding sought choose
       after-told o = s ∙ rw o
 
-      after-climb : isSomewhere repeat ≡ false → w .climbing .falls ≡ false → next ≡ record { repeat = repeat; again = false }
-      unfolding sought choose _and_
-      after-climb o f = s ∙ rw (o, f)
+      after-none : isTold told ≡ false → next ≡ record { told = found; again = isTold found }
+      unfolding sought choose
+      after-none o = s ∙ rw o
 
-      after-fall : isSomewhere repeat ≡ false → w .climbing .falls ≡ true → next ≡ record { repeat = found; again = isSomewhere found }
-      unfolding sought choose _and_
-      after-fall o f = s ∙ rw (o, f)
-
-      unseen : repeat ≡ Nowhere → isSomewhere repeat ≡ false
-      unfolding isSomewhere
-      unseen o = rw o
-
-      pub judging-less : walksLeft (next .repeat) (next .again) < walksLeft repeat again
+      pub judging-less : walksLeft (next .told) (next .again) < walksLeft told again
       unfolding choose
-      judging-less = go (g .told t) (w .climbing .falls) refl
+      judging-less = go (g .known t)
         where
-          here : (x : Bool) → isSomewhere repeat ≡ x → (m : ℕ) → walksLeft (next .repeat) (next .again) ≡ m → m < choose true (choose x 1 2) 0 → walksLeft (next .repeat) (next .again) < walksLeft repeat again
-          here x o m q l = rw (t, o, q) l
-
           few : (y : Bool) → choose y (choose y 1 2) 0 < 2
           few true = omega arith
           few false = omega arith
 
-          go : Told n rest repeat → (y : Bool) → w .climbing .falls ≡ y → walksLeft (next .repeat) (next .again) < walksLeft repeat again
-          go (first-one o k) y f = here true o 0 (rw (after-told o)) (omega arith)
-          go (nothing o) false f = here false (unseen o) 0 (rw (after-climb (unseen o) f)) (omega arith)
-          go (nothing o) true f = here false (unseen o) _ (rw (after-fall (unseen o) f)) (few (isSomewhere found))
+          go : Known n rest told → walksLeft (next .told) (next .again) < walksLeft told again
+          go (something o k) = rw (t, o, after-told o) (omega arith)
+          go (nothing o z) = rw (t, o, after-none o) (few (isTold found))
 
-      pub judging-next : (after : Row) → after ≡ rowAt (w .state) n (w .records) → Judging book repeats n rest after (next .repeat) (next .again)
-      judging-next after q = go (g .told t) (w .climbing .falls) refl
+      pub judging-next : (after : Row) → after ≡ rowAt (w .state) n (w .records) → Judging book repeats n rest after (next .told) (next .again)
+      judging-next after q = go (g .known t)
         where
-          -- the walk was told of the first repeat
-          last : (r : Repeat) → repeat ≡ r → ((b : Batch) → BatchOf n rest b → repeat ≡ firstRepeat Payments n [] (batchLines b)) → next ≡ record { repeat = repeat; again = false }
-              → Judging book repeats n rest after (next .repeat) (next .again)
-          last r o k a = rw a (record { told = λ i. absurd (true≢false (sym i)); done = λ i b h. told-row rest n b h book repeats repeat w e (k b h) after q })
+          row-is : ((b : Batch) → BatchOf n rest b → Right n b told) → IsRow book repeats n rest after
+          row-is k b h = told-row rest n b h book repeats told w e (k b h) after q
 
-          go : Told n rest repeat → (y : Bool) → w .climbing .falls ≡ y → Judging book repeats n rest after (next .repeat) (next .again)
-          go (first-one o k) y f = last repeat refl k (after-told o)
-          go (nothing o) false f = last repeat refl (λ b h. o ∙ climb-told rest n b h book repeats repeat w e f) (after-climb (unseen o) f)
-          go (nothing o) true f =
-              rw (after-fall (unseen o) f)
-              (record {
-                told = λ i. first-one i (λ b h. sought-told rest n b h book repeats repeat w e found refl);
-                done = λ i b h. told-row rest n b h book repeats repeat w e (o ∙ sym (nowhere found i) ∙ sought-told rest n b h book repeats repeat w e found refl) after q;
-              })
+          right : (b : Batch) → BatchOf n rest b → Right n b found
+          right b h = learnt-right rest n b h book repeats told w e
+
+          go : Known n rest told → Judging book repeats n rest after (next .told) (next .again)
+          go (something o k) = rw (after-told o) (record { known = λ i. absurd (true≢false (sym i)); done = λ i. row-is k })
+          go (nothing o z) =
+              rw (after-none o)
+              (record { known = λ i. something i right; done = λ i. row-is (λ b h. rw (z ∙ sym (none-told found i)) (right b h)) })

@@ -147,19 +147,19 @@ module _ (book : Contents) (n : ℕ) (r : Record) where
   headed k repeats h =
       record { repeats = repeats; reporter = false; codes = k; symbol = h .symbol; serial = h .serial; payments = 0; total = zero-amount }
 
-  pub batch-opened : (repeats : Bool) (h : Header) (f : Finding) (o : Open) → h ≡ head book n r
+  pub batch-opened : (repeats crowded : Bool) (h : Header) (f : Finding) (o : Open) → h ≡ head book crowded n r
       → (k : Codes) → k ≡ locationOnly (h .payer .listed)
       → f ≡ after sound (findings (headed k repeats h) n r (rulesFor (h .letter) header)) → o ≡ opened n (headed k repeats h) zero-amount
-      → record { finding = f; header = h; payment = o; payments = 0; total = zero-amount; accounts = 0 } ≡ opening book repeats n r
+      → record { finding = f; header = h; payment = o; payments = 0; total = zero-amount; accounts = 0 } ≡ opening book repeats crowded n r
   unfolding opening head split
-  batch-opened repeats h f o e k c d q = rw (d, q, c, e)
+  batch-opened repeats crowded h f o e k c d q = rw (d, q, c, e)
 
   -- what the header says
-  pub head-read : (c : Code) (l : Letter) (payer : Listing) (symbol : List ℕ) (serial : ℕ) (a : Amount) → c ≡ codeOf r → l ≡ letterIn c → payer ≡ location book (held r agencyLocationCode)
+  pub head-read : (c : Code) (l : Letter) (payer : Listing) (symbol : List ℕ) (serial : ℕ) (a : Amount) (crowded : Bool) → c ≡ codeOf r → l ≡ letterIn c → payer ≡ location book (held r agencyLocationCode)
       → symbol ≡ held r checkSymbolNumber → serial ≡ firstSerial r → a ≡ split (cents (held r summaryTotalAmount))
-      → record { number = n; letter = l; payer = payer; symbol = symbol; serial = serial; amount = a } ≡ head book n r
+      → record { number = n; letter = l; payer = payer; symbol = symbol; serial = serial; amount = a; crowded = crowded } ≡ head book crowded n r
   unfolding head
-  head-read c l payer symbol serial a p q u v w x = rw (x, w, v, u, q, p)
+  head-read c l payer symbol serial a crowded p q u v w x = rw (x, w, v, u, q, p)
 
   -- the state after a detail and a DT
   module _ (s : State) where

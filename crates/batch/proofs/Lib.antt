@@ -4,6 +4,7 @@ mod Marked
 mod Repeated
 mod Ends
 mod Adequate
+pub mod Accounts
 mod Trailers
 mod Turns
 mod Judged

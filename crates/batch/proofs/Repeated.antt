@@ -25,6 +25,7 @@ use Rattle.repeats.specs.declared.Repeat.{Repeat}
 use Rattle.repeats.specs.declared.Repeat.the-variants.{At}
 use Rattle.repeats.specs.declared.Sort.the-variants.{Payments}
 use Rattle.tables.specs.Tables.{member}
+use Rattle.kinds.specs.Kinds.{crowded}
 use Rattle.repeats.specs.Repeats.{numbering, isOf, numbers, repeats, firstRepeat}
 use Rattle.repeats.proofs.Looks.{numbers-snoc}
 use Rattle.reasons.specs.declared.Finding.{Finding}
@@ -32,7 +33,7 @@ use Rattle.reasons.specs.Findings.{sound, first, noted, after}
 use Rattle.reasons.specs.Reasons.{unrepeated, composed}
 use Rattle.reasons.proofs.Firsts.{after-append, after-sound, stays}
 use Rattle.rules.specs.Rules.{header, detail, reason, among, rows, rulesFor, findings}
-use Rattle.batch.specs.Batch.{letterOf, idOf, size, context, headerCodes, detailContext, payment, payments, batchFindings}
+use Rattle.batch.specs.Batch.{letterOf, idOf, size, context, headerCodes, detailContext, payment, accountKinds, tooMany, payments, batchFindings}
 use Rattle.batch.specs.Walk.{isAt}
 use Rattle.batch.proofs.Marked.{markedPayments, markedFindings}
 
@@ -208,8 +209,8 @@ module _ (book : Contents) where
 
   -- the first finding is the same where only the first detail that repeats is marked
   pub first-repeat-enough : (repeats : Bool) (n : ℕ) (b : Batch) → LegalBatch b
-      → first (markedFindings book repeats (isAt (firstRepeat Payments n [] (batchLines b))) n b) ≡ first (batchFindings book repeats n b)
-  unfolding markedFindings batchFindings numbers codeBytes isDetail
+      → first (markedFindings book repeats (crowded (accountKinds (b .payments))) (isAt (firstRepeat Payments n [] (batchLines b))) n b) ≡ first (batchFindings book repeats n b)
+  unfolding markedFindings batchFindings tooMany numbers codeBytes isDetail
   first-repeat-enough repeats n b g =
       let l = lettered (g .letter) (g .listed) in
       let answer = firstRepeat Payments n [] (batchLines b) in

@@ -71,10 +71,10 @@ serial-below line rec e = go (digits (held (seen line rec) checkFirstSerialNumbe
     go false d = rw d (omega arith)
 
 -- what the header's rules know
-pub kept-header : (book : Contents) (n : ℕ) (line : Line) (rec : List ℕ) (h : Header) (repeats : Bool) (codes : Codes) (k : ℕ) → k < 65536 → length rec ≡ 850 → h ≡ head book n (seen line rec)
+pub kept-header : (book : Contents) (n : ℕ) (line : Line) (rec : List ℕ) (h : Header) (repeats crowded : Bool) (codes : Codes) (k : ℕ) → k < 65536 → length rec ≡ 850 → h ≡ head book crowded n (seen line rec)
     → Kept (record { repeats = repeats; reporter = false; codes = codes; symbol = h .symbol; serial = h .serial; payments = k; total = record { high = 0; low = 0 } })
 unfolding head Whole
-kept-header book n line rec h repeats codes k few l e =
+kept-header book n line rec h repeats crowded codes k few l e =
     record { serial = rw e (serial-below line rec l); payments = few; total = omega arith }
 
 module _ (n : ℕ) (s : State) (r : Room n s) (h : n ≤ 65535) where

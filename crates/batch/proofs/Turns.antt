@@ -22,11 +22,11 @@ use Rattle.book.specs.Book.{Contents}
 use Rattle.nesting.specs.Division.{Record}
 use Rattle.nesting.specs.Records.{lineOf, cut}
 use Rattle.nesting.proofs.Cuts.{bytesFrom, from-length, recordFrom, cut-next}
-use Rattle.repeats.specs.declared.Repeat.{Repeat}
 use Rattle.repeats.specs.declared.climb.Climbing.{Climbing}
 use Rattle.repeats.specs.Climb.{climbed, climbedBy}
 use Rattle.rules.specs.declared.Context.{Context}
 use Rattle.rules.specs.Rules.{Kept}
+use Rattle.batch.specs.declared.pass.Told.{Told}
 use Rattle.batch.specs.declared.pass.Walked.{Walked}
 use Rattle.batch.specs.declared.payment.Open.{Open}
 use Rattle.batch.specs.declared.walk.State.{State}
@@ -100,9 +100,9 @@ module _ (line : Line) (rec : List ℕ) (l : length rec ≡ 850) where
   below f h w = cents-below (held (seen line rec) f) (wide f h w)
 
   -- after a header there is room
-  pub room-opening : (book : Contents) (repeats : Bool) (n m : ℕ) → Room (n + 1) (opening book repeats m (seen line rec))
+  pub room-opening : (book : Contents) (repeats crowded : Bool) (n m : ℕ) → Room (n + 1) (opening book repeats crowded m (seen line rec))
   unfolding opening opened head
-  room-opening book repeats n m =
+  room-opening book repeats crowded n m =
       record {
         payment =
             record {
@@ -180,36 +180,36 @@ unfolding taken
 took book n r w s c marked e k = rw (e, k)
 
 -- what is known after no records, and after a first one
-module _ (book : Contents) (repeat : Repeat) (n : ℕ) (w : Walked) where
-  over-none : walkedOver book repeat n w [] ≡ w
+module _ (book : Contents) (told : Told) (n : ℕ) (w : Walked) where
+  over-none : walkedOver book told n w [] ≡ w
   unfolding walkedOver run climbedBy
   over-none =
       let e : w .records + 0 ≡ w .records = omega arith in
       λ i. record { state = w .state; climbing = w .climbing; records = e i }
 
-  over-next : (r : Record) (rs : List Record) → walkedOver book repeat n w (r ∷ rs) ≡ walkedOver book repeat (n + 1) (taken book n w r (isAt repeat n)) rs
+  over-next : (r : Record) (rs : List Record) → walkedOver book told n w (r ∷ rs) ≡ walkedOver book told (n + 1) (taken book n w r (isAt (told .repeat) n)) rs
   unfolding walkedOver taken run climbedBy
   over-next r rs =
-      let t = taken book n w r (isAt repeat n) in
+      let t = taken book n w r (isAt (told .repeat) n) in
       let e : w .records + length (r ∷ rs) ≡ w .records + 1 + length rs = omega arith in
-      λ i. record { state = run book (isAt repeat) (n + 1) (t .state) rs; climbing = climbedBy rs (t .climbing); records = e i }
+      λ i. record { state = run book (isAt (told .repeat)) (n + 1) (t .state) rs; climbing = climbedBy rs (t .climbing); records = e i }
 
 -- room for the record n, under a name that is shut: the bounds of amounts are too large for the arithmetic of places
 unfoldable pub Roomy : ℕ → State → Type 0
 Roomy n s = Room n s
 
 -- so many records have been walked, up to `at`, and no BT behind the header: the walk over the others is the walk over all
-pub record Walking (book : Contents) (rest : List ℕ) (first : ℕ) (repeats : Bool) (repeat : Repeat) (w : Walked) (at : ℕ) : Type 0 where
+pub record Walking (book : Contents) (rest : List ℕ) (first : ℕ) (repeats : Bool) (told : Told) (w : Walked) (at : ℕ) : Type 0 where
   pub judgeable : Judgeable first rest
   pub place : at ≡ w .records * 850
   pub some : 1 ≤ w .records
   pub within : at ≤ length rest
   pub room : Roomy (first + w .records) (w .state)
-  pub left : walkOf book repeats repeat first rest ≡ walkedOver book repeat (first + w .records) w (toTrailer (cut (first + w .records) (length rest / 850 - w .records) (drop at rest)))
+  pub left : walkOf book repeats told first rest ≡ walkedOver book told (first + w .records) w (toTrailer (cut (first + w .records) (length rest / 850 - w .records) (drop at rest)))
 
-module _ {book : Contents} {rest : List ℕ} {first : ℕ} {repeats : Bool} {repeat : Repeat} where
-  pub begun : {s : State} → Judgeable first rest → s ≡ opening book repeats first (seen (lineOf first) (take 850 rest))
-      → Walking book rest first repeats repeat (record { state = s; climbing = noClimb; records = 1 }) 850
+module _ {book : Contents} {rest : List ℕ} {first : ℕ} {repeats : Bool} {told : Told} where
+  pub begun : {s : State} → Judgeable first rest → s ≡ opening book repeats (told .crowded) first (seen (lineOf first) (take 850 rest))
+      → Walking book rest first repeats told (record { state = s; climbing = noClimb; records = 1 }) 850
   unfolding walkOf Roomy
   begun j e =
       let h = first-record j in
@@ -220,11 +220,11 @@ module _ {book : Contents} {rest : List ℕ} {first : ℕ} {repeats : Bool} {rep
         place = refl;
         some = omega arith;
         within = h;
-        room = room-opening (lineOf first) (take 850 rest) l book repeats first first;
+        room = room-opening (lineOf first) (take 850 rest) l book repeats (told .crowded) first first;
         left = refl;
       })
 
-  module _ {w : Walked} {at : ℕ} (i : Walking book rest first repeats repeat w at) where
+  module _ {w : Walked} {at : ℕ} (i : Walking book rest first repeats told w at) where
     -- the record that begins at `at`
     abbrev here : Record
     here = recordFrom rest (first + w .records) at
@@ -257,8 +257,8 @@ module _ {book : Contents} {rest : List ℕ} {first : ℕ} {repeats : Bool} {rep
           rw e (cut-next rest (first + w .records) at (length rest / 850 - (w .records + 1)))
 
       -- it is a BT, or none, by its code
-      module _ {t : Walked} {k : Code} {x marked : Bool} (g : marked ≡ isAt repeat (first + w .records)) (e : t ≡ taken book (first + w .records) w here marked) (o : k ≡ codeOf here) (z : x ≡ isTrailer k) where
-        pub turned : x ≡ false → Walking book rest first repeats repeat t (at + 850)
+      module _ {t : Walked} {k : Code} {x marked : Bool} (g : marked ≡ isAt (told .repeat) (first + w .records)) (e : t ≡ taken book (first + w .records) w here marked) (o : k ≡ codeOf here) (z : x ≡ isTrailer k) where
+        pub turned : x ≡ false → Walking book rest first repeats told t (at + 850)
         unfolding taken toTrailer choose Roomy
         turned f =
             let m : first + (w .records + 1) ≡ first + w .records + 1 = omega arith in
@@ -270,20 +270,20 @@ module _ {book : Contents} {rest : List ℕ} {first : ℕ} {repeats : Bool} {rep
               some = omega arith;
               within = end-within;
               room = rw m (room-step (lineOf (first + w .records)) (bytesFrom rest at) here-length book (first + w .records) (w .state) room-here (codeOf here) _ number-few);
-              left = rw m (i .left ∙ rw (left-next, p) (over-next book repeat (first + w .records) w here _));
+              left = rw m (i .left ∙ rw (left-next, p) (over-next book told (first + w .records) w here _));
             })
 
-        pub ended : x ≡ true → t ≡ walkOf book repeats repeat first rest
+        pub ended : x ≡ true → t ≡ walkOf book repeats told first rest
         unfolding toTrailer choose
         ended f =
             let p : isTrailer (codeOf here) ≡ true = ap isTrailer (sym o) ∙ sym z ∙ f in
-            sym (i .left ∙ rw (left-next, p, e, g) (over-next book repeat (first + w .records) w here [] ∙ over-none book repeat _ _))
+            sym (i .left ∙ rw (left-next, p, e, g) (over-next book told (first + w .records) w here [] ∙ over-none book told _ _))
 
-    pub finished : length rest ≤ at → w ≡ walkOf book repeats repeat first rest
+    pub finished : length rest ≤ at → w ≡ walkOf book repeats told first rest
     unfolding toTrailer cut
     finished h =
         let e : length rest / 850 - w .records ≡ 0 = omega (arith, i .place) in
-        sym (i .left ∙ rw e (over-none book repeat _ w))
+        sym (i .left ∙ rw e (over-none book told _ w))
 
 -- where the walk stops after a record, by its code
 pub stops : (k : Code) (end stop : ℕ) (x : Bool) → x ≡ isTrailer k → x ≡ true → end ≡ choose (isTrailer k) end stop
@@ -295,21 +295,21 @@ unfolding choose
 goes-on k end stop x e f = rw (← e, f)
 
 -- the walk goes on while a record is left, or has stopped behind the BT
-pub record Passing (book : Contents) (rest : List ℕ) (first : ℕ) (repeats : Bool) (repeat : Repeat) (w : Walked) (at stop : ℕ) : Type 0 where
-  pub going : at < stop → Walking book rest first repeats repeat w at
+pub record Passing (book : Contents) (rest : List ℕ) (first : ℕ) (repeats : Bool) (told : Told) (w : Walked) (at stop : ℕ) : Type 0 where
+  pub going : at < stop → Walking book rest first repeats told w at
   pub whole : at < stop → stop ≡ length rest
-  pub done : stop ≤ at → w ≡ walkOf book repeats repeat first rest
+  pub done : stop ≤ at → w ≡ walkOf book repeats told first rest
 
-module _ {book : Contents} {rest : List ℕ} {first : ℕ} {repeats : Bool} {repeat : Repeat} where
-  pub passing-begun : {s : State} → Judgeable first rest → s ≡ opening book repeats first (seen (lineOf first) (take 850 rest))
-      → Passing book rest first repeats repeat (record { state = s; climbing = noClimb; records = 1 }) 850 (length rest)
+module _ {book : Contents} {rest : List ℕ} {first : ℕ} {repeats : Bool} {told : Told} where
+  pub passing-begun : {s : State} → Judgeable first rest → s ≡ opening book repeats (told .crowded) first (seen (lineOf first) (take 850 rest))
+      → Passing book rest first repeats told (record { state = s; climbing = noClimb; records = 1 }) 850 (length rest)
   passing-begun j e =
-      let w : Walking book rest first repeats repeat _ 850 = begun j e in
+      let w : Walking book rest first repeats told _ 850 = begun j e in
       record { going = λ h. w; whole = λ h. refl; done = λ h. finished w h }
 
-  module _ {w : Walked} {at stop : ℕ} (p : Passing book rest first repeats repeat w at stop) (h : at < stop) where
+  module _ {w : Walked} {at stop : ℕ} (p : Passing book rest first repeats told w at stop) (h : at < stop) where
     -- the record at the place
-    pub walking : Walking book rest first repeats repeat w at
+    pub walking : Walking book rest first repeats told w at
     walking = p .going h
 
     pub left : at < length rest
@@ -324,14 +324,14 @@ module _ {book : Contents} {rest : List ℕ} {first : ℕ} {repeats : Bool} {rep
           go true f = let e : stop' ≡ at + 850 = rw f at z in omega arith
           go false f = let e : stop' ≡ stop = rw f at z in omega arith
 
-      pub passing-next : {s : State} {c : Climbing} {marked : Bool} → marked ≡ isAt repeat (first + w .records) → k ≡ codeOf (recordFrom rest (first + w .records) at)
+      pub passing-next : {s : State} {c : Climbing} {marked : Bool} → marked ≡ isAt (told .repeat) (first + w .records) → k ≡ codeOf (recordFrom rest (first + w .records) at)
           → s ≡ stepOf book (codeOf (recordFrom rest (first + w .records) at)) (w .state) (first + w .records) (recordFrom rest (first + w .records) at) marked
           → c ≡ climbed (recordFrom rest (first + w .records) at) (w .climbing)
-          → Passing book rest first repeats repeat (record { state = s; climbing = c; records = w .records + 1 }) (at + 850) stop'
+          → Passing book rest first repeats told (record { state = s; climbing = c; records = w .records + 1 }) (at + 850) stop'
       unfolding choose
       passing-next {s} {c} {marked} g o e q = go (isTrailer k) refl
         where
-          go : (x : Bool) → isTrailer k ≡ x → Passing book rest first repeats repeat (record { state = s; climbing = c; records = w .records + 1 }) (at + 850) stop'
+          go : (x : Bool) → isTrailer k ≡ x → Passing book rest first repeats told (record { state = s; climbing = c; records = w .records + 1 }) (at + 850) stop'
           go true f =
               let y : stop' ≡ at + 850 = rw f at z in
               record {

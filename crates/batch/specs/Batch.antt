@@ -3,7 +3,7 @@ use mathlib.Core.Path.{_≡_}
 use mathlib.Core.Bool.{Bool, true, false}
 use mathlib.Core.List.{List, [], _∷_, _++_, map}
 use Prim.Native.Nat.{ℕ, _+_, _/_, _%_, _≤_}
-use lib.Dec.{eqb, leb}
+use lib.Dec.{eqb}
 use lib.ListN.{length}
 use Rattle.record.specs.declared.codes.Letter.{Letter}
 use Rattle.record.specs.Choice.{_and_, choose}
@@ -19,6 +19,7 @@ use Rattle.nesting.specs.Division.{Record, Payment, Batch, LegalBatch, batchLin
 use Rattle.nesting.specs.Paid.{paid, paidBy}
 use Rattle.nesting.specs.Records.{cut}
 use Rattle.tables.specs.Tables.{member}
+use Rattle.kinds.specs.Kinds.{kind, crowded}
 use Rattle.reasons.specs.declared.Finding.{Finding}
 use Rattle.reasons.specs.Findings.{found, first}
 use Rattle.rules.specs.declared.Codes.{Codes}
@@ -91,9 +92,14 @@ unfoldable pub noRecords : List Record → Bool
 noRecords [] = true
 noRecords (r ∷ rs) = false
 
--- 12: more than 1,000 DT in the batch, with the header's record and field 76
+-- the kinds of TAS/BETC of the DT of payments, in file order (02 W1)
+unfoldable pub accountKinds : List Payment → List (List ℕ)
+accountKinds [] = []
+accountKinds (p ∷ ps) = map kind (p .accounts) ++ accountKinds ps
+
+-- 12: more than 1,000 different kinds in the batch, with the header's record and field 76 (02 W1; 004 section 2.5)
 unfoldable pub tooMany : ℕ → List Payment → Finding
-tooMany n ps = found (choose (leb (accountCount ps) 1000) 0 12) n 76
+tooMany n ps = found (choose (crowded (accountKinds ps)) 12 0) n 76
 
 -- field 9 equals the sum, except in BC (14, header's record)
 unfoldable pub summary : ℕ → Record → List Payment → Finding

@@ -1,13 +1,13 @@
 -- How the walk goes from record to record. No promise to other crates rests on it: the proofs tie it to Batch.antt.
-use mathlib.Core.Bool.{Bool, true, false, not}
+use mathlib.Core.Bool.{Bool, true, false}
 use mathlib.Core.List.{List, [], _∷_, _++_}
 use Prim.Native.Nat.{ℕ, _+_, _-_, _*_, _/_, _<_}
-use lib.Dec.{eqb, leb}
+use lib.Dec.{eqb, ltb}
 use lib.ListN.{length, take, drop, replicate}
 use Rattle.record.specs.declared.codes.Letter.the-variants.{N}
 use Rattle.record.specs.declared.codes.Code.{Code}
 use Rattle.record.specs.declared.codes.Code.the-variants as code
-use Rattle.record.specs.Choice.{_and_, choose}
+use Rattle.record.specs.Choice.{_and_, _or_, choose}
 use Rattle.record.specs.Fields.{summaryTotalAmount, agencyLocationCode, checkSymbolNumber, amount, paymentLocationCode, accountAmount, procurementAmount}
 use Rattle.record.specs.Value.{seen, held}
 use Rattle.record.specs.Tests.{blank}
@@ -19,6 +19,7 @@ use Rattle.book.specs.declared.search.Listing.{Listing}
 use Rattle.book.specs.Book.{Contents}
 use Rattle.nesting.specs.Division.{Record}
 use Rattle.nesting.specs.Records.{lineOf, cut}
+use Rattle.kinds.specs.Kinds.{kinds, crowded}
 use Rattle.repeats.specs.declared.Repeat.{Repeat}
 use Rattle.repeats.specs.declared.Repeat.the-variants.{At, Nowhere}
 use Rattle.repeats.specs.declared.Sort.the-variants.{Payments}
@@ -32,6 +33,7 @@ use Rattle.rules.specs.declared.Context.{Context}
 use Rattle.rules.specs.Rules.{check, among, header, detail, party, account, procurement, loneProcurement, trailer, rulesFor, findings, Kept}
 use Rattle.batch.specs.declared.Row.{Row}
 use Rattle.batch.specs.declared.Seeking.{Seeking}
+use Rattle.batch.specs.declared.pass.Told.{Told}
 use Rattle.batch.specs.declared.pass.Walked.{Walked}
 use Rattle.batch.specs.declared.payment.Open.{Open}
 use Rattle.batch.specs.declared.walk.Header.{Header}
@@ -148,7 +150,7 @@ procured s n r =
 -- 12, the trailer, and field 9's sum
 unfoldable pub last : State → ℕ → Record → List Finding
 last s n r =
-    found (choose (leb (s .accounts) 1000) 0 12) (s .header .number) 76
+    found (choose (s .header .crowded) 12 0) (s .header .number) 76
     ∷ (findings (contextOf s false false noCodes) n r (rulesFor N trailer)
     ++ found (choose (among (s .header .letter) check) 0 (choose (eqb (worth (s .header .amount)) (worth (s .total))) 0 14)) (s .header .number) 9
     ∷ [])
@@ -166,9 +168,9 @@ abbrev pub noClimb : Climbing
 noClimb = record { falls = false; greatest = replicate 20 0 }
 
 module _ (book : Contents) where
-  -- what the header says
-  unfoldable pub head : ℕ → Record → Header
-  head n h =
+  -- what the header says, and whether the batch is known to have too many kinds
+  unfoldable pub head : Bool → ℕ → Record → Header
+  head crowded n h =
       record {
         number = n;
         letter = letterIn (codeOf h);
@@ -176,6 +178,7 @@ module _ (book : Contents) where
         symbol = held h checkSymbolNumber;
         serial = firstSerial h;
         amount = split (cents (held h summaryTotalAmount));
+        crowded = crowded;
       }
 
   -- what the header's rules know
@@ -192,9 +195,9 @@ module _ (book : Contents) where
       }
 
   -- before the first payment: an empty one of no reporter, with which nothing is wrong
-  unfoldable pub opening : Bool → ℕ → Record → State
-  opening repeats n h =
-      state (after sound (findings (headContext repeats h) n h (rulesFor (letterIn (codeOf h)) header))) (head n h)
+  unfoldable pub opening : Bool → Bool → ℕ → Record → State
+  opening repeats crowded n h =
+      state (after sound (findings (headContext repeats h) n h (rulesFor (letterIn (codeOf h)) header))) (head crowded n h)
       (opened n (headContext repeats h) (split 0)) 0 (split 0) 0
 
   -- the payer's location
@@ -245,18 +248,18 @@ module _ (book : Contents) where
       }
 
   -- and after records, the first of which has this number
-  unfoldable pub walkedOver : Repeat → ℕ → Walked → List Record → Walked
-  walkedOver repeat n w rs =
+  unfoldable pub walkedOver : Told → ℕ → Walked → List Record → Walked
+  walkedOver told n w rs =
       record {
-        state = run (isAt repeat) n (w .state) rs;
+        state = run (isAt (told .repeat)) n (w .state) rs;
         climbing = climbedBy rs (w .climbing);
         records = w .records + length rs;
       }
 
   -- the walk over what begins with a batch: the header, and the records behind it up to the first BT
-  unfoldable pub walkOf : Bool → Repeat → ℕ → List ℕ → Walked
-  walkOf repeats repeat n rest =
-      walkedOver repeat (n + 1) (record { state = opening repeats n (seen (lineOf n) (take 850 rest)); climbing = noClimb; records = 1 })
+  unfoldable pub walkOf : Bool → Told → ℕ → List ℕ → Walked
+  walkOf repeats told n rest =
+      walkedOver told (n + 1) (record { state = opening repeats (told .crowded) n (seen (lineOf n) (take 850 rest)); climbing = noClimb; records = 1 })
       (toTrailer (cut (n + 1) (length rest / 850 - 1) (drop 850 rest)))
 
 -- the repeat is somewhere
@@ -268,10 +271,21 @@ isSomewhere Nowhere = false
 abbrev pub firstIn : ℕ → List ℕ → Repeat
 firstIn n bytes = firstRepeat Payments n [] (cut n (length bytes / 850) bytes)
 
--- after a walk that was told of a repeat or of none: where it was told of none and an ID fell, the next is told of the one that is found, if there is one
-unfoldable pub sought : Repeat → Repeat → Bool → Seeking
-sought told first falls =
-    choose (not (isSomewhere told) and falls) (record { repeat = first; again = isSomewhere first }) (record { repeat = told; again = false })
+-- too many kinds among the DT of the bytes
+abbrev pub crowdedIn : ℕ → List ℕ → Bool
+crowdedIn n bytes = crowded (kinds (cut n (length bytes / 850) bytes))
+
+-- the walk is told of a repeat, or of too many kinds
+unfoldable pub isTold : Told → Bool
+isTold t = t .crowded or isSomewhere (t .repeat)
+
+-- what is learnt of the bytes of a batch: the repeat is sought where an ID fell, and kinds are counted where there are more than 1,000 DT
+unfoldable pub learnt : Bool → ℕ → ℕ → List ℕ → Told
+learnt falls accounts n bytes = record { repeat = choose falls (firstIn n bytes) Nowhere; crowded = ltb 1000 accounts and crowdedIn n bytes }
+
+-- after a walk: where it was told of nothing, the next is told of what was learnt, if that is something
+unfoldable pub sought : Told → Told → Seeking
+sought told next = choose (isTold told) (record { told = told; again = false }) (record { told = next; again = isTold next })
 
 -- the row at the end of the walk
 unfoldable pub rowAt : State → ℕ → ℕ → Row

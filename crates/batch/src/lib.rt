@@ -6,15 +6,18 @@ mod walk;
 
 use book::Book;
 use money::Amount;
+use pass::Told;
 use pass::Walked;
 use reasons::Finding;
 use repeats::Repeat;
 ghost use mathlib.Core.Path.{_≡_};
 ghost use Prim.Native.Nat.{_*_, _≤_};
+ghost use lib.Dec.{ltb};
 ghost use lib.ListN.{length, take};
+ghost use Rattle.record.specs.Choice.{_and_};
 ghost use Rattle.book.specs.Book.{Usable, listedAt};
 ghost use Rattle.batch.specs.Batch.{Judgeable, IsRow};
-ghost use Rattle.batch.specs.Walk.{isSomewhere, firstIn, sought, rowAt};
+ghost use Rattle.batch.specs.Walk.{isSomewhere, crowdedIn, isTold, learnt, sought, rowAt};
 
 // What the report says of a batch (01 Report): the number of its first record, its record count, its payments, their exact total,
 // and the first finding, of reason 0 where the batch is sound.
@@ -45,7 +48,7 @@ fn row_of(walked: Walked, first_record: usize) -> Row
 
 // What the next walk is told, and whether there is one.
 struct Seeking {
-    repeat: Repeat,
+    told: Told,
     again: bool,
 }
 
@@ -59,35 +62,65 @@ fn is_somewhere(repeat: Repeat) -> bool
     }
 }
 
-// What is left to do after a walk over so many records that was told of this repeat. Where the Payment IDs climb, none repeats; where one falls,
-// the first repeat is sought, and if there is one the batch is walked again with it.
-fn seek(rest: &[u8], first: usize, records: usize, falls: bool, repeat: Repeat) -> Seeking
-    requires { ⌜ (records * 850 ≤ length (now rest)) × (length (now rest) ≤ 65535 * 850) × (first ≤ 65536) ⌝ }
-    ensures { λ r. ⌜ r ≡ sought repeat (firstIn first (take (records * 850) (now (rest .entry)))) falls ⌝ }
+// Whether a walk is told of a repeat or of too many kinds.
+fn is_told(told: Told) -> bool
+    ensures { λ r. ⌜ r ≡ isTold told ⌝ }
 {
-    if is_somewhere(repeat) {
-        return Seeking {
-            repeat,
-            again: false,
-        };
+    let repeat = told.repeat;
+    if told.crowded {
+        return true;
     }
+    is_somewhere(repeat)
+}
+
+// Whether the DT of the batch have too many kinds. At most 1,000 DT have no more kinds, and are not counted.
+fn has_crowd(part: &[u8], first: usize, accounts: usize) -> bool
+    requires { ⌜ (length (now part) ≤ 65535 * 850) × (first ≤ 65536) ⌝ }
+    ensures { λ r. ⌜ r ≡ (ltb 1000 accounts and crowdedIn first (now (part .entry))) ⌝ }
+{
+    if accounts <= kinds::MOST {
+        return false;
+    }
+    kinds::are_crowded(part, first)
+}
+
+// The next walk is told of this, if it is something.
+fn tell(repeat: Repeat, crowded: bool) -> Seeking
+    ensures { λ r. ⌜ r ≡ record { told = record { repeat = repeat; crowded = crowded }; again = isTold (record { repeat = repeat; crowded = crowded }) } ⌝ }
+{
+    let told = Told { repeat, crowded };
+    let again = is_told(told);
+    Seeking { told, again }
+}
+
+// What is left to do after a walk over so many records, with so many DT, that was told so. Where the Payment IDs climb, none repeats; where one
+// falls, the first repeat is sought. Kinds are asked for at two places, so that their table has a frame of its own.
+fn seek(
+    rest: &[u8],
+    first: usize,
+    records: usize,
+    falls: bool,
+    accounts: usize,
+    told: Told,
+) -> Seeking
+    requires { ⌜ (records * 850 ≤ length (now rest)) × (length (now rest) ≤ 65535 * 850) × (first ≤ 65536) ⌝ }
+    ensures { λ r. ⌜ r ≡ sought told (learnt falls accounts first (take (records * 850) (now (rest .entry)))) ⌝ }
+{
+    if is_told(told) {
+        return Seeking { told, again: false };
+    }
+    let end = records * 850;
     if falls {
-        let end = records * 850;
-        let found = repeats::first_repeat(&rest[0..end], first);
-        let again = is_somewhere(found);
-        return Seeking {
-            repeat: found,
-            again,
-        };
+        let repeat = repeats::first_repeat(&rest[0..end], first);
+        let crowded = has_crowd(&rest[0..end], first, accounts);
+        return tell(repeat, crowded);
     }
-    Seeking {
-        repeat,
-        again: false,
-    }
+    let crowded = has_crowd(&rest[0..end], first, accounts);
+    tell(Repeat::Nowhere, crowded)
 }
 
 // The row of the batch that begins the rest of the file; its header has the number `first`, and its schedule number repeats an earlier
-// batch's or not. One walk tells all where the Payment IDs climb, and where none repeats.
+// batch's or not. One walk tells all where no Payment ID repeats and the kinds are not too many.
 pub fn judge_batch(book: &[u8], shelves: Book, rest: &[u8], first: usize, repeats: bool) -> Row
     requires { ⌜ Usable (now book) shelves × Judgeable first (now rest) ⌝ }
     ensures { λ r. ⌜ IsRow (listedAt (now (book .entry)) shelves) repeats first (now (rest .entry)) r ⌝ }
@@ -105,14 +138,25 @@ pub fn judge_batch(book: &[u8], shelves: Book, rest: &[u8], first: usize, repeat
         total,
         finding,
     };
-    let mut repeat = Repeat::Nowhere;
+    let mut told = Told {
+        repeat: Repeat::Nowhere,
+        crowded: false,
+    };
     let mut again = true;
     while again {
-        let walked = pass::walk_batch(book, shelves, rest, first, repeats, repeat);
+        let walked = pass::walk_batch(book, shelves, rest, first, repeats, told);
         let climbing = walked.climbing;
-        let next = seek(rest, first, walked.records, climbing.falls, repeat);
+        let state = walked.state;
+        let next = seek(
+            rest,
+            first,
+            walked.records,
+            climbing.falls,
+            state.accounts,
+            told,
+        );
         row = row_of(walked, first);
-        repeat = next.repeat;
+        told = next.told;
         again = next.again;
     }
     row

@@ -16,6 +16,12 @@ ghost use Rattle.book.specs.Book.{Usable, listedAt};
 ghost use Rattle.batch.specs.Batch.{Judgeable};
 ghost use Rattle.batch.specs.Walk.{isAt, walkOf};
 
+// What a walk is told of its batch: the first record that repeats an earlier Payment ID, and whether there are too many kinds.
+pub(crate) struct Told {
+    pub(crate) repeat: Repeat,
+    pub(crate) crowded: bool,
+}
+
 // What is known after a record: the state, whether the Payment IDs climbed so far, and the count of the records.
 pub(crate) struct Walked {
     pub(crate) state: State,
@@ -23,10 +29,11 @@ pub(crate) struct Walked {
     pub(crate) records: usize,
 }
 
-// The record with this number is the one that repeats.
-fn is_at(repeat: Repeat, number: usize) -> bool
-    ensures { λ r. ⌜ r ≡ isAt repeat number ⌝ }
+// The record with this number is the one that is told to repeat.
+fn is_at(told: Told, number: usize) -> bool
+    ensures { λ r. ⌜ r ≡ isAt (told .repeat) number ⌝ }
 {
+    let repeat = told.repeat;
     match repeat {
         Repeat::At(place) => place == number,
         Repeat::Nowhere => false,
@@ -43,20 +50,20 @@ fn stop_after(code: Code, end: usize, stop: usize) -> usize
     stop
 }
 
-// The walk over the batch that begins the rest of the file, up to its BT; one record is known to repeat an earlier Payment ID, or none.
+// The walk over the batch that begins the rest of the file, up to its BT, told of a repeat and of too many kinds, or of none.
 pub(crate) fn walk_batch(
     book: &[u8],
     shelves: Book,
     rest: &[u8],
     first: usize,
     repeats: bool,
-    repeat: Repeat,
+    told: Told,
 ) -> Walked
     requires { ⌜ Usable (now book) shelves × Judgeable first (now rest) ⌝ }
-    ensures { λ r. ⌜ r ≡ walkOf (listedAt (now (book .entry)) shelves) repeats repeat first (now (rest .entry)) ⌝ }
+    ensures { λ r. ⌜ r ≡ walkOf (listedAt (now (book .entry)) shelves) repeats told first (now (rest .entry)) ⌝ }
 {
     let opening = Line { number: first };
-    let mut state = walk::open_batch(book, shelves, &rest[0..850], opening, repeats);
+    let mut state = walk::open_batch(book, shelves, &rest[0..850], opening, repeats, told.crowded);
     let mut climbing = Climbing {
         falls: false,
         greatest: [0u8; 20],
@@ -68,7 +75,7 @@ pub(crate) fn walk_batch(
         let end = at + 850;
         let number = first + records;
         let line = Line { number };
-        let repeated = is_at(repeat, number);
+        let repeated = is_at(told, number);
         let code = code_of(&rest[at..end], line);
         state = walk::step(book, shelves, &rest[at..end], line, code, state, repeated);
         climbing = climb(&rest[at..end], line, code, climbing);

@@ -24,7 +24,7 @@ use rules::others::trailer_rules;
 ghost use mathlib.Core.Path.{_≡_};
 ghost use mathlib.Core.Bool.{false};
 ghost use Prim.Native.Nat.{_≤_};
-ghost use lib.Dec.{eqb, leb};
+ghost use lib.Dec.{eqb};
 ghost use lib.ListN.{length};
 ghost use Rattle.record.specs.declared.codes.Letter.the-variants.{N};
 ghost use Rattle.record.specs.Choice.{choose};
@@ -38,7 +38,7 @@ ghost use Rattle.batch.specs.Batch.{firstSerial, withCodes};
 ghost use Rattle.batch.specs.Walk.{Room, loneBlank, head, opening, contextOf, knowing, payerIn, payingContext, nextProcurement, last, detailed, partied, accounted, procured, trailed, stepOf};
 
 // What the header says: its record, the batch's letter, what the book says of the location in field 14, fields 18 and 19, and the total of
-// field 9.
+// field 9. And whether the batch is known to have too many kinds.
 pub(crate) struct Header {
     pub(crate) number: usize,
     pub(crate) letter: Letter,
@@ -46,6 +46,7 @@ pub(crate) struct Header {
     pub(crate) symbol: [u8; 4],
     pub(crate) serial: u64,
     pub(crate) amount: Amount,
+    pub(crate) crowded: bool,
 }
 
 // What is known after a record: the first finding, what the header says, the open payment, the batch's payments, total and DT so far.
@@ -82,9 +83,9 @@ fn first_serial(rec: &[u8], line: Line) -> u64
     0
 }
 
-fn read_header(book: &[u8], shelves: Book, rec: &[u8], line: Line) -> Header
+fn read_header(book: &[u8], shelves: Book, rec: &[u8], line: Line, crowded: bool) -> Header
     requires { ⌜ Usable (now book) shelves × (length (now rec) ≡ 850) ⌝ }
-    ensures { λ r. ⌜ r ≡ head (listedAt (now (book .entry)) shelves) (line .number) (seen line (now (rec .entry))) ⌝ }
+    ensures { λ r. ⌜ r ≡ head (listedAt (now (book .entry)) shelves) crowded (line .number) (seen line (now (rec .entry))) ⌝ }
 {
     let number = line.number;
     let code = code_of(rec, line);
@@ -100,16 +101,24 @@ fn read_header(book: &[u8], shelves: Book, rec: &[u8], line: Line) -> Header
         symbol,
         serial,
         amount,
+        crowded,
     }
 }
 
-// The state after the header, whose schedule number repeats an earlier batch's or not. Before the first payment an empty one of no
-// reporter stands open, with which nothing is wrong.
-pub(crate) fn open_batch(book: &[u8], shelves: Book, rec: &[u8], line: Line, repeats: bool) -> State
+// The state after the header, whose schedule number repeats an earlier batch's or not; the batch is known to have too many kinds, or not.
+// Before the first payment an empty one of no reporter stands open, with which nothing is wrong.
+pub(crate) fn open_batch(
+    book: &[u8],
+    shelves: Book,
+    rec: &[u8],
+    line: Line,
+    repeats: bool,
+    crowded: bool,
+) -> State
     requires { ⌜ Usable (now book) shelves × (length (now rec) ≡ 850) ⌝ }
-    ensures { λ r. ⌜ r ≡ opening (listedAt (now (book .entry)) shelves) repeats (line .number) (seen line (now (rec .entry))) ⌝ }
+    ensures { λ r. ⌜ r ≡ opening (listedAt (now (book .entry)) shelves) repeats crowded (line .number) (seen line (now (rec .entry))) ⌝ }
 {
-    let header = read_header(book, shelves, rec, line);
+    let header = read_header(book, shelves, rec, line, crowded);
     let symbol = header.symbol;
     let letter = header.letter;
     let payer = header.payer;
@@ -326,14 +335,14 @@ fn take_procurement(rec: &[u8], line: Line, state: State) -> State
     know(state, finding, payment, state.accounts)
 }
 
-// 12: more than 1,000 DT in the batch.
-fn account_limit(accounts: usize) -> usize
-    ensures { λ r. ⌜ r ≡ choose (leb accounts 1000) 0 12 ⌝ }
+// 12: too many kinds of TAS/BETC in the batch.
+fn crowd_reason(crowded: bool) -> usize
+    ensures { λ r. ⌜ r ≡ choose crowded 12 0 ⌝ }
 {
-    if accounts <= 1000 {
-        return 0;
+    if crowded {
+        return 12;
     }
-    12
+    0
 }
 
 // 14: field 9 is not the sum of the payments, except in BC.
@@ -360,11 +369,11 @@ fn last_findings(known: Finding, rec: &[u8], line: Line, state: State) -> Findin
     let header = state.header;
     let total = state.total;
     let opening = header.number;
-    let limit = account_limit(state.accounts);
-    let after_limit = reasons::note(known, limit, opening, 76);
+    let crowd = crowd_reason(header.crowded);
+    let after_crowd = reasons::note(known, crowd, opening, 76);
     let none = lookups::location_only(false);
     let context = context_of(state, false, false, none);
-    let after_trailer = trailer_rules(after_limit, rec, line, context);
+    let after_trailer = trailer_rules(after_crowd, rec, line, context);
     let summary = summary_reason(header, total);
     reasons::note(after_trailer, summary, opening, 9)
 }

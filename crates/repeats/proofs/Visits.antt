@@ -9,14 +9,12 @@ use borrow.Author.Tests.{leb-true, ltb-true, ltb-false}
 use lib.Dec.{leb, ltb}
 use lib.ListN.{length}
 use Rattle.record.specs.declared.Field.{Field}
-use Rattle.record.specs.Choice.{_and_, _or_, choose}
+use Rattle.record.specs.Choice.{_and_, choose}
 use Rattle.record.specs.Value.{held}
-use Rattle.record.specs.Tests.{alike}
-use Rattle.record.proofs.Same.{alike-equal}
 use Rattle.nesting.specs.Records.{cut, recordAt}
 use Rattle.tables.specs.declared.Entry.{Entry}
 use Rattle.tables.specs.Tables.{Stands, Tabled, member, isKnown, isNew, entryOf, tableAfter}
-use Rattle.tables.proofs.Tables.{Holds, member-snoc, holds-none, known-is, holds-known, holds-new, holds-full, count-known, count-new, count-full, after-length}
+use Rattle.tables.proofs.Tables.{Holds, member-again, holds-none, known-is, holds-known, holds-new, holds-full, count-known, count-new, count-full, after-length}
 use Rattle.repeats.specs.declared.Sort.{Sort}
 use Rattle.repeats.specs.declared.blocks.Visited.{Visited}
 use Rattle.repeats.specs.Repeats.{numbering, isOf, numbers}
@@ -145,13 +143,6 @@ pub filling-tabled : (room : ℕ) (sort : Sort) (first : ℕ) (bytes : List ℕ)
     → Tabled first (numbering sort) bytes table count
 filling-tabled room sort first bytes from limit place table count next b = b .table-held .holds .tabled
 
--- a number that is there already changes nothing
-again : (x y : List ℕ) (ys : List (List ℕ)) (b m : Bool) → alike x y ≡ b → member y ys ≡ m → member x ys ≡ true → member y ys ≡ member y (ys ++ x ∷ [])
-unfolding member _or_
-again x y ys true m e f t = rw (member-snoc y ys x, ← alike-equal x y e, t)
-again x y ys false true e f t = rw (member-snoc y ys x, e, f)
-again x y ys false false e f t = rw (member-snoc y ys x, e, f)
-
 module _ (room : ℕ) (sort : Sort) (first : ℕ) (bytes : List ℕ) (from limit place : ℕ) (table : List ℕ) (count next : ℕ) (b : Filling room sort first bytes from limit place table count next) (s : Stands first place bytes) where
   h : Held sort first bytes from limit place table count next
   h = b .table-held
@@ -237,7 +228,7 @@ module _ (room : ℕ) (sort : Sort) (first : ℕ) (bytes : List ℕ) (from limit
         met-again : (b : Bool) → ltb place next ≡ b → isOf sort (recordAt first place bytes) ≡ true → member number these ≡ true
             → (y : List ℕ) → member y these ≡ member y (numbers sort (between first from (lesser next (place + 1)) bytes))
         unfolding choose
-        met-again true e o m y = rw (more f (ltb-true _ _ e), o) (again number y these _ _ refl refl m)
+        met-again true e o m y = rw (more f (ltb-true _ _ e), o) (member-again number y these m)
         met-again false e o m y = rw (over (ltb-false _ _ e))
 
         with-new : isOf sort (recordAt first place bytes) ≡ true → count < length table → these ++ number ∷ [] ≡ numbers sort (between first from (lesser next (place + 1)) bytes)

@@ -13,6 +13,7 @@ use Rattle.record.specs.declared.Order.the-variants.{Before}
 use Rattle.record.specs.Choice.{_or_}
 use Rattle.record.specs.Tests.{alike}
 use Rattle.record.specs.Ordering.{order}
+use Rattle.record.proofs.Same.{alike-equal}
 use Rattle.record.proofs.Orders.{turn-after}
 use Rattle.tables.specs.declared.Entry.{Entry}
 use Rattle.tables.specs.Tables.{Stands, Tabled, valueAt, valuesAt, kept, member, rank, insertedAt, isKnown, entryOf, tableAfter}
@@ -25,6 +26,16 @@ use Rattle.tables.proofs.Enters.{seat-in, known-entry, known-table, new
 -- one value more
 pub member-snoc : (x : List ℕ) (ys : List (List ℕ)) (y : List ℕ) → member x (ys ++ y ∷ []) ≡ (member x ys or alike y x)
 member-snoc x ys y = member-between x ys y [] ∙ ap (λ (zs : List (List ℕ)). member x zs or alike y x) (append-nil ys)
+
+-- one that is there already changes nothing
+pub member-again : (x y : List ℕ) (ys : List (List ℕ)) → member x ys ≡ true → member y ys ≡ member y (ys ++ x ∷ [])
+unfolding _or_
+member-again x y ys t = go (alike x y) (member y ys) refl refl
+  where
+    go : (b m : Bool) → alike x y ≡ b → member y ys ≡ m → member y ys ≡ member y (ys ++ x ∷ [])
+    go true m e f = rw (member-snoc y ys x, ← alike-equal x y e, t)
+    go false true e f = rw (member-snoc y ys x, e, f)
+    go false false e f = rw (member-snoc y ys x, e, f)
 
 -- the table is in order, and holds just these values
 pub record Holds (first : ℕ) (field : Field) (bytes table : List ℕ) (count : ℕ) (vs : List (List ℕ)) : Type 0 where

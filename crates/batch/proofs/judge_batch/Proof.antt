@@ -5,10 +5,10 @@ use Rattle.batch.proofs.judge_batch.Statement.{statement}
 use Rattle.batch.proofs.judge_batch.Tie as tie
 
 abbrev Inv-loop : tie.InvT-loop
-Inv-loop book shelves rest first repeats row₀ repeat₀ again₀ row repeat again = Judging (listedAt book shelves) repeats first rest row repeat again
+Inv-loop book shelves rest first repeats row₀ told₀ again₀ row told again = Judging (listedAt book shelves) repeats first rest row told again
 
 abbrev μ-loop : tie.MeasureT-loop
-μ-loop book shelves rest first repeats row₀ repeat₀ again₀ row repeat again = walksLeft repeat again
+μ-loop book shelves rest first repeats row₀ told₀ again₀ row told again = walksLeft told again
 
 loop-holds : tie.Need-loop-holds Inv-loop μ-loop
 loop-holds c = judging-begun _ _ _
@@ -18,20 +18,21 @@ walk-batch-requires c κs = search needs
 
 seek-requires : tie.Need-seek-requires Inv-loop μ-loop
 seek-requires c κs =
-    let j = c .before .before .before .before .before .before .pre .1 in
-    let e = c .before .walk-batch .ensures in
+    let j = c .before .before .before .before .before .before .before .pre .1 in
+    let e = c .before .before .walk-batch .ensures in
     (end-within _ _ _ j e, rest-few _ _ _ j e, first-few _ _ _ j e)
 
 row-of-requires : tie.Need-row-of-requires Inv-loop μ-loop
 row-of-requires c κs = search needs
 
 loop-less : tie.Need-loop-less Inv-loop μ-loop
-loop-less c = judging-less _ _ _ (c .before .before .before .before .before .before .before .before .pre .1) (c .before .before .before .walk-batch .ensures) (c .before .before .before .before .before .loop .inv) (c .before .before .before .before .loop-test .taken) _ (c .before .seek .ensures)
+loop-less c =
+    judging-less _ _ _ (c .before .before .before .before .before .before .before .before .before .before .pre .1) (c .before .before .before .before .before .walk-batch .ensures) (c .before .before .before .before .before .before .before .loop .inv) (c .before .before .before .before .before .before .loop-test .taken) _ (c .before .before .seek .ensures)
 
 loop-again : tie.Need-loop-again Inv-loop μ-loop
 loop-again c =
-    judging-next _ _ _ (c .before .before .before .before .before .before .before .before .pre .1) (c .before .before .before .walk-batch .ensures) (c .before .before .before .before .before .loop .inv) (c .before .before .before .before .loop-test .taken) _ (c .before .seek .ensures)
-    _ (c .row-of .ensures)
+    judging-next _ _ _ (c .before .before .before .before .before .before .before .before .before .before .pre .1) (c .before .before .before .before .before .walk-batch .ensures) (c .before .before .before .before .before .before .before .loop .inv) (c .before .before .before .before .before .before .loop-test .taken) _ (c .before .before .seek .ensures)
+    _ (c .before .row-of .ensures)
 
 returns : tie.Need-returns Inv-loop μ-loop
 returns c = c .before .loop .inv .done (c .loop-test .left)

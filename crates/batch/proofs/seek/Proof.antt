@@ -1,10 +1,11 @@
-use Rattle.batch.proofs.Judged.{seek-told, seek-climbed, seek-fallen}
+use Rattle.record.proofs.Chain.{choose-yes, choose-no}
+use Rattle.batch.proofs.Judged.{seek-told, seek-learnt}
 use borrow.Author.Needs.{needs}
 use Rattle.batch.proofs.seek.Statement.{statement}
 use Rattle.batch.proofs.seek.Tie as tie
 
-is-somewhere-requires : tie.Need-is-somewhere-requires
-is-somewhere-requires c κs = search needs
+is-told-requires : tie.Need-is-told-requires
+is-told-requires c κs = search needs
 
 returns : tie.Need-returns
 returns c = search (needs, seek-told)
@@ -24,26 +25,62 @@ part-first-repeat-end c = search needs
 first-repeat-requires : tie.Need-first-repeat-requires
 first-repeat-requires c κs = search needs
 
-is-somewhere-requires-2 : tie.Need-is-somewhere-requires-2
-is-somewhere-requires-2 c κs = search needs
+sub-has-crowd : tie.Need-sub-has-crowd
+sub-has-crowd c = search needs
+
+part-has-crowd-start : tie.Need-part-has-crowd-start
+part-has-crowd-start c = search needs
+
+part-has-crowd-end : tie.Need-part-has-crowd-end
+part-has-crowd-end c = search needs
+
+has-crowd-requires : tie.Need-has-crowd-requires
+has-crowd-requires c κs = search needs
+
+tell-requires : tie.Need-tell-requires
+tell-requires c κs = search needs
 
 returns-2 : tie.Need-returns-2
-returns-2 c = search (needs, seek-fallen)
+returns-2 c = search (needs, seek-learnt, choose-yes)
+
+sub-has-crowd-2 : tie.Need-sub-has-crowd-2
+sub-has-crowd-2 c = search needs
+
+part-has-crowd-start-2 : tie.Need-part-has-crowd-start-2
+part-has-crowd-start-2 c = search needs
+
+part-has-crowd-end-2 : tie.Need-part-has-crowd-end-2
+part-has-crowd-end-2 c = search needs
+
+has-crowd-requires-2 : tie.Need-has-crowd-requires-2
+has-crowd-requires-2 c κs = search needs
+
+tell-requires-2 : tie.Need-tell-requires-2
+tell-requires-2 c κs = search needs
 
 returns-3 : tie.Need-returns-3
-returns-3 c = search (needs, seek-climbed)
+returns-3 c = search (needs, seek-learnt, choose-no)
 
 pub seek-spec : {M : Type 1} → statement M
 seek-spec =
     tie.close
     (tie.spec
-    is-somewhere-requires
+    is-told-requires
     returns
     mul-end
     sub-first-repeat
     part-first-repeat-start
     part-first-repeat-end
     first-repeat-requires
-    is-somewhere-requires-2
+    sub-has-crowd
+    part-has-crowd-start
+    part-has-crowd-end
+    has-crowd-requires
+    tell-requires
     returns-2
+    sub-has-crowd-2
+    part-has-crowd-start-2
+    part-has-crowd-end-2
+    has-crowd-requires-2
+    tell-requires-2
     returns-3)

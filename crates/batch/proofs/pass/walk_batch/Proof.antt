@@ -7,11 +7,11 @@ use Rattle.batch.proofs.pass.walk_batch.Statement.{statement}
 use Rattle.batch.proofs.pass.walk_batch.Tie as tie
 
 abbrev Inv-loop : tie.InvT-loop
-Inv-loop book shelves rest first repeats repeat state₀ climbing₀ records₀ at₀ stop₀ state climbing records at stop =
-    Passing (listedAt book shelves) rest first repeats repeat (record { state = state; climbing = climbing; records = records }) at stop
+Inv-loop book shelves rest first repeats told state₀ climbing₀ records₀ at₀ stop₀ state climbing records at stop =
+    Passing (listedAt book shelves) rest first repeats told (record { state = state; climbing = climbing; records = records }) at stop
 
 abbrev μ-loop : tie.MeasureT-loop
-μ-loop book shelves rest first repeats repeat state₀ climbing₀ records₀ at₀ stop₀ state climbing records at stop = stop - at
+μ-loop book shelves rest first repeats told state₀ climbing₀ records₀ at₀ stop₀ state climbing records at stop = stop - at
 
 sub-open-batch : tie.Need-sub-open-batch Inv-loop μ-loop
 sub-open-batch c = search needs

@@ -7,8 +7,8 @@ use borrow.Author.Needs.{needs}
 use Rattle.batch.proofs.walk.last_findings.Statement.{statement}
 use Rattle.batch.proofs.walk.last_findings.Tie as tie
 
-account-limit-requires : tie.Need-account-limit-requires
-account-limit-requires c κs = search needs
+crowd-reason-requires : tie.Need-crowd-reason-requires
+crowd-reason-requires c κs = search needs
 
 note-requires : tie.Need-note-requires
 note-requires c κs = search needs
@@ -32,14 +32,14 @@ returns : tie.Need-returns
 unfolding last
 returns c =
     more _ _ _ _ _ _ _ _ (c .before .before .before .before .before .note .ensures)
-    (c .before .before .before .before .before .before .account-limit .ensures)
+    (c .before .before .before .before .before .before .crowd-reason .ensures)
     (then _ _ _ _ _ (in-context _ _ _ _ _ _ _ (emptied _ _ _ _ _ (c .before .before .before .before .location-only .ensures) (c .before .before .before .context-of .ensures)) (c .before .before .trailer-rules .ensures)) (firsts.last _ _ _ _ _ _ (c .note2 .ensures) (c .before .summary-reason .ensures)))
 
 pub last-findings-spec : {M : Type 1} → statement M
 last-findings-spec =
     tie.close
     (tie.spec
-    account-limit-requires
+    crowd-reason-requires
     note-requires
     location-only-requires
     context-of-requires

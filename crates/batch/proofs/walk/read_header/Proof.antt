@@ -23,7 +23,7 @@ field-amount-requires c κs = search needs
 
 returns : tie.Need-returns
 returns c =
-    head-read _ _ _ _ _ _ _ _ _ (c .before .before .before .before .before .code-of .ensures)
+    head-read _ _ _ _ _ _ _ _ _ _ (c .before .before .before .before .before .code-of .ensures)
     (c .before .before .before .before .letter-in .ensures) (c .before .before .before .location .ensures)
     (c .before .before .symbol-of .ensures) (c .before .first-serial .ensures) (c .field-amount .ensures)
 

@@ -1,0 +1,5 @@
+mod OtherCodes
+pub mod Stretch
+pub mod Different
+mod Counts
+pub mod Unique

@@ -1,0 +1,50 @@
+use Prim.Native.Nat.{_-_, _≤_}
+use Rattle.kinds.proofs.Counts.{Counted, counted-none, counted-tabled, counted-room, counted-next, counted-crowded, counted-all}
+use borrow.Author.Needs.{needs}
+use Rattle.kinds.proofs.are_crowded.Statement.{statement}
+use Rattle.kinds.proofs.are_crowded.Tie as tie
+
+abbrev Inv-loop : tie.InvT-loop
+Inv-loop part first records table₀ kinds₀ place₀ table kinds place = (kinds ≤ 1000) × Counted first part records place table kinds
+
+abbrev μ-loop : tie.MeasureT-loop
+μ-loop part first records table₀ kinds₀ place₀ table kinds place = records - place
+
+loop-holds : tie.Need-loop-holds Inv-loop μ-loop
+loop-holds c = search (needs, counted-none)
+
+slice-aggregate-count : tie.Need-slice-aggregate-count Inv-loop μ-loop
+slice-aggregate-count c = search needs
+
+count-requires : tie.Need-count-requires Inv-loop μ-loop
+count-requires c κs = search (needs, counted-tabled, counted-room)
+
+returns : tie.Need-returns Inv-loop μ-loop
+returns c = counted-crowded _ _ _ _ _ _ (counted-next _ _ _ _ _ _ (c .before .before .before .before .before .loop .inv .1) (c .before .before .before .before .before .loop .inv .0) (c .before .before .before .before .loop-test .taken) (search needs, search needs) _ _ (c .before .before .count .ensures .0) (c .before .before .count .ensures .1)) (c .if1 .taken)
+
+add-place : tie.Need-add-place Inv-loop μ-loop
+add-place c = search needs
+
+loop-less : tie.Need-loop-less Inv-loop μ-loop
+loop-less c = search needs
+
+loop-again : tie.Need-loop-again Inv-loop μ-loop
+loop-again c = (search needs, counted-next _ _ _ _ _ _ (c .before .before .before .before .before .loop .inv .1) (c .before .before .before .before .before .loop .inv .0) (c .before .before .before .before .loop-test .taken) (search needs, search needs) _ _ (c .before .before .count .ensures .0) (c .before .before .count .ensures .1))
+
+returns-2 : tie.Need-returns-2 Inv-loop μ-loop
+returns-2 c = search (needs, counted-all)
+
+pub are-crowded-spec : {M : Type 1} → statement M
+are-crowded-spec =
+    tie.close
+    (tie.spec
+    Inv-loop
+    μ-loop
+    loop-holds
+    slice-aggregate-count
+    count-requires
+    returns
+    add-place
+    loop-less
+    loop-again
+    returns-2)

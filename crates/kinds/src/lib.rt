@@ -1,0 +1,81 @@
+// The kinds of TAS/BETC of a batch (02 W1; 004 section 2.5): whether its DT have more than 1,000 different ones.
+use record::Field;
+use record::Line;
+use record::codes::Code;
+use record::codes::code_of;
+use tables::enter;
+ghost use mathlib.Core.Path.{_≡_};
+ghost use Prim.Native.Nat.{_*_, _/_, _<_, _≤_};
+ghost use lib.ListN.{length};
+ghost use Rattle.nesting.specs.Records.{cut, recordAt};
+ghost use Rattle.record.specs.Codes.{codeOf};
+ghost use Rattle.tables.specs.Tables.{Stands, Tabled};
+ghost use Rattle.kinds.specs.Kinds.{isAccount, kinds, crowded};
+ghost use Rattle.kinds.specs.Counting.{stretch, counted, tableCounted};
+
+// The kinds that a batch may have.
+pub const MOST: usize = 1000;
+
+// Where a DT's kind stands: 004's fields 78 to 86, side by side.
+const KIND: Field = Field {
+    start: 23,
+    width: 32,
+};
+
+// The code is DT.
+fn is_account(code: Code) -> bool
+    ensures { λ r. ⌜ r ≡ isAccount code ⌝ }
+{
+    match code {
+        Code::Account => true,
+        _ => false,
+    }
+}
+
+// The record at the place is a DT.
+fn has_kind(file: &[u8], first: usize, place: usize) -> bool
+    requires { ⌜ Stands first place (now file) ⌝ }
+    ensures { λ r. ⌜ r ≡ isAccount (codeOf (recordAt first place (now (file .entry)))) ⌝ }
+{
+    let at = place * 850;
+    let end = at + 850;
+    let number = first + place;
+    let code = code_of(&file[at..end], Line { number });
+    is_account(code)
+}
+
+// The kinds so far, with the record at the place: a DT of a kind that the table lacks counts, and is entered.
+fn count(file: &[u8], first: usize, place: usize, table: &mut [u16], kinds: usize) -> usize
+    requires { ⌜ Tabled first stretch (now file) (now table) kinds × Stands first place (now file) × (place < 65536) × (kinds < length (now table)) ⌝ }
+    ensures answer { λ r. ⌜ r ≡ counted first (now (file .entry)) (now (table .entry)) kinds place ⌝ }
+    ensures after { λ r. ⌜ now (table .exit) ≡ tableCounted first (now (file .entry)) (now (table .entry)) kinds place ⌝ }
+{
+    if !has_kind(file, first, place) {
+        return kinds;
+    }
+    let more = kinds + 1;
+    let entry = enter(file, first, place, KIND, table, kinds);
+    if entry.known {
+        return kinds;
+    }
+    more
+}
+
+// The DT of the records have too many kinds. The pass ends at the first kind too many.
+pub fn are_crowded(part: &[u8], first: usize) -> bool
+    requires { ⌜ (length (now part) ≤ 65535 * 850) × (first ≤ 65536) ⌝ }
+    ensures { λ r. ⌜ r ≡ crowded (kinds (cut first (length (now (part .entry)) / 850) (now (part .entry)))) ⌝ }
+{
+    let records = part.len() / 850;
+    let mut table = [0u16; MOST + 1];
+    let mut kinds: usize = 0;
+    let mut place: usize = 0;
+    while place < records {
+        kinds = count(part, first, place, &mut table, kinds);
+        if MOST < kinds {
+            return true;
+        }
+        place += 1;
+    }
+    false
+}
