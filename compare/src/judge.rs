@@ -1,5 +1,6 @@
-//! A judge of SRF files, read from document 01 (the rules), 004 (layouts and values) and the readings. It stands in document 01's order:
-//! bytes, nesting, code book, file answers, report, batch reasons. "01 X" cites a section of document 01, "004 n" a field.
+//! A judge of SRF files, read from document 01 (the rules), 02 (request W1), 004 (layouts and values) and the readings. It stands in
+//! document 01's order: bytes, nesting, code book, file answers, report, batch reasons. "01 X" cites a section of document 01, "02 Wn" a
+//! request, "004 n" a field.
 
 use crate::layout::{self, place, Kind, RECORD};
 use std::collections::HashSet;
@@ -473,7 +474,7 @@ enum Reason {
     TasSum = 9,
     ProcurementSum = 10,
     WithoutTas = 11,
-    TooManyTas = 12,
+    TooManyKinds = 12,
     Count = 13,
     Amount = 14,
 }
@@ -604,8 +605,10 @@ const PAYER_MECHANISMS: [[u8; 20]; 3] = [text("Electronic"), text("Check"), text
 /// 004 62.
 const ENTRY_CLASSES: [[u8; 3]; 4] = [text("CCD"), text("PPD"), text("IAT"), text("CTX")];
 
-/// 01 Batch reasons 12.
-const MOST_TAS_IN_BATCH: usize = 1_000;
+/// 01 Batch reasons 12, as 02 W1 has it.
+const MOST_KINDS_IN_BATCH: usize = 1_000;
+/// 02 W1: positions 23 to 54 of a DT, fields 78 to 86, are its kind of TAS/BETC.
+const TAS_KIND: Range<usize> = place(78).start..place(86).end;
 
 /// 01 Batch reasons, Order: header, each payment, 12, BT, field 9's sum. `schedule_numbers` holds those of all earlier batches.
 fn batch_rules<'a>(batch: &Batch<'a>, book: &Book, schedule_numbers: &mut HashSet<&'a [u8]>) -> Check {
@@ -635,11 +638,20 @@ fn batch_rules<'a>(batch: &Batch<'a>, book: &Book, schedule_numbers: &mut HashSe
         tas += payment_rules(records, number, within, book, &mut payment_ids)?;
         number += records.len() as u64;
     }
-    header.must(tas <= MOST_TAS_IN_BATCH, 76, Reason::TooManyTas)?;
+    let few_kinds = tas <= MOST_KINDS_IN_BATCH || !too_many_kinds(payments);
+    header.must(few_kinds, 76, Reason::TooManyKinds)?;
 
     trailer_rules(trailer, batch)?;
     let sum_matches = letter(header.raw) == CHECK || amount(header.field(9)) == Some(batch.total);
     header.must(sum_matches, 9, Reason::Amount)
+}
+
+/// 02 W1: whether the DT among the records are of more kinds than a batch may have.
+fn too_many_kinds(records: &[Raw]) -> bool {
+    let mut kinds = HashSet::with_capacity(MOST_KINDS_IN_BATCH + 1);
+    let tas = records.iter().filter(|raw| kind(raw) == Some(Kind::TasBetc));
+    tas.map(|raw| &raw[TAS_KIND])
+        .any(|kind| kinds.insert(kind) && kinds.len() > MOST_KINDS_IN_BATCH)
 }
 
 /// 01 Header. Gives whether field 14 is a CARS Reporter (never in BC, where field 29 decides).
@@ -878,7 +890,7 @@ mod tests {
         vec![
             section_bytes(1, &[("SYSTEM", 40, &[])]),
             section_bytes(2, &[(PLAIN, 8, &[0]), (REPORTER, 8, &[1])]),
-            section_bytes(3, &[("CREDIT", 8, &[1]), ("DEBIT", 8, &[0])]),
+            section_bytes(3, &[("CREDIT", 8, &[1]), ("DEBIT", 8, &[0]), ("DEBIT  2", 8, &[0])]),
             section_bytes(4, &[("Vendor", 25, &[])]),
             section_bytes(5, &[("NY", 2, &[])]),
             section_bytes(6, &[("US", 2, &[])]),
@@ -1457,15 +1469,104 @@ mod tests {
         assert_eq!(changed('N', &[(1, 29, REPORTER)]), SOUND);
     }
 
+    /// One cent each, with these numbers in field 84.
+    fn tas_of_kinds(numbers: Range<usize>) -> Vec<Raw> {
+        let of_kind = |number| record("DT", &[(84, &format!("{number:04}")), (87, &cents(1))]);
+        numbers.map(of_kind).collect()
+    }
+
+    /// A batch of these DT, debits or without BETC, so many to a payment. Payment IDs fill their field.
+    fn batch_of_tas(schedule: &str, tas: &[Raw], in_payment: usize) -> Vec<Raw> {
+        let paid = |tas: &[Raw]| tas.iter().map(|tas| amount(layout::of(tas, 87)).unwrap()).sum();
+        let payments: Vec<_> = tas.chunks(in_payment).map(|tas| (paid(tas), tas.to_vec())).collect();
+        let mut records = batch('N', schedule, &payments);
+        let last = records.len() - 1;
+        let mut payments = 0;
+        for record in &mut records[1..last] {
+            payments += usize::from(kind(record) == Some(Kind::Detail));
+            put(record, 23, &format!("{payments:020}"));
+        }
+        records
+    }
+
+    /// 02 W1: the request's own example, and many DT in few payments.
     #[test]
-    fn thousand_tas_in_a_batch() {
-        let payment = |nth, n| (n as u128, (0..n).map(|_| tas(&id('N', nth), "", 1)).collect::<Vec<_>>());
-        let mut payments: Vec<_> = (0..10).map(|nth| payment(nth, 100)).collect();
-        assert_eq!(fault(batch('N', "S", &payments)), SOUND);
-        payments.push(payment(10, 1));
-        let mut over = batch('N', "S", &payments);
-        put(over.last_mut().unwrap(), 99, "");
-        assert_eq!(fault(over), [12, 2, 76]);
+    fn many_tas_of_one_kind() {
+        let one_kind = vec![tas("", "DEBIT", 1); 1_200];
+        assert_eq!(fault(batch_of_tas("S", &one_kind, 1)), SOUND);
+        assert_eq!(fault(batch_of_tas("S", &one_kind, 100)), SOUND);
+        assert_eq!(fault(batch_of_tas("S", &tas_of_kinds(0..1_000).repeat(3), 100)), SOUND);
+    }
+
+    #[test]
+    fn thousand_kinds_in_a_batch() {
+        assert_eq!(fault(batch_of_tas("S", &tas_of_kinds(0..1_000), 100)), SOUND);
+        let mut over = batch_of_tas("S", &tas_of_kinds(0..1_001), 100);
+        let last = over.len() - 1;
+        assert_eq!(fault(over.clone()), [12, 2, 76]);
+        put(&mut over[0], 9, &cents(1));
+        put(&mut over[last], 99, "");
+        assert_eq!(fault(over.clone()), [12, 2, 76]);
+        put(&mut over[last - 1], 87, &cents(2));
+        assert_eq!(fault(over.clone()), [9, last as u64 - 1, 87]);
+        put(&mut over[last - 1], 87, "");
+        assert_eq!(fault(over), [1, last as u64 + 1, 87]);
+
+        let late = [tas_of_kinds(0..1_000), tas_of_kinds(0..500), tas_of_kinds(1_000..1_001)].concat();
+        assert_eq!(fault(batch_of_tas("S", &late, 100)), [12, 2, 76]);
+        assert_eq!(fault(batch_of_tas("S", &late[..1_500], 100)), SOUND);
+    }
+
+    #[test]
+    fn kinds_of_each_batch() {
+        let of = |schedule, numbers| batch_of_tas(schedule, &tas_of_kinds(numbers), 100);
+        let faults = |batches: &[Vec<Raw>]| -> Vec<u64> { rows(&file(batches))[1..].iter().flat_map(|row| row[5..].to_vec()).collect() };
+        assert_eq!(faults(&[of("S1", 0..700), of("S2", 700..1_400)]), [0; 6]);
+        let over = [of("S1", 0..700), of("S2", 0..1_001), of("S3", 300..1_300)];
+        assert_eq!(faults(&over), [0, 0, 0, 12, 2 + over[0].len() as u64, 76, 0, 0, 0]);
+    }
+
+    /// 02 W1: uniqueness is over positions 23 to 54.
+    #[test]
+    fn what_makes_a_kind() {
+        // The last DT of the tenth payment, and the only one of the eleventh.
+        let after_999_kinds = |one: Raw, other: Raw| {
+            let tas = [tas_of_kinds(0..999), vec![one, other]].concat();
+            fault(batch_of_tas("S", &tas, 100))
+        };
+        let debit = tas("", "DEBIT", 1);
+        let with = |field, value| {
+            let mut changed = debit;
+            put(&mut changed, field, value);
+            changed
+        };
+        let differ_at = |one: Raw, other: Raw| -> Vec<usize> { (1..=RECORD).filter(|at| one[at - 1] != other[at - 1]).collect() };
+
+        assert_eq!(after_999_kinds(debit, debit), SOUND); // but for position 22
+        for field in 78..=85 {
+            assert_eq!(after_999_kinds(debit, with(field, "0")), [12, 2, 76], "{field}");
+        }
+        let (first, last) = (with(78, "0"), with(86, "DEBIT  2"));
+        assert_eq!((differ_at(debit, first), differ_at(debit, last)), (vec![23], vec![54]));
+        assert_eq!(after_999_kinds(debit, first), [12, 2, 76]);
+        assert_eq!(after_999_kinds(debit, last), [12, 2, 76]);
+        assert_eq!(after_999_kinds(debit, with(86, "")), [12, 2, 76]);
+
+        let large = 10u128.pow(19) + 1;
+        assert_eq!(differ_at(debit, tas("", "DEBIT", large)), [55]);
+        for same in [tas("", "DEBIT", large), with(87, &cents(7)), with(88, "1")] {
+            assert_eq!(after_999_kinds(debit, same), SOUND);
+        }
+
+        let blank = tas("", "", 1);
+        assert!(is_blank(&blank[TAS_KIND]));
+        assert_eq!(after_999_kinds(blank, blank), SOUND);
+        assert_eq!(after_999_kinds(blank, debit), [12, 2, 76]);
+        for at in TAS_KIND.filter(|at| !place(86).contains(at)) {
+            let mut other = blank;
+            other[at] = 0xFF;
+            assert_eq!(after_999_kinds(blank, other), [12, 2, 76], "{at}");
+        }
     }
 
     #[test]

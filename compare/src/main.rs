@@ -81,6 +81,18 @@ fn row_words(reason: u64, field: u64, letter: &str) -> String {
     format!("reason {reason} field {field} in B{letter}")
 }
 
+/// 02 W1: what may be said of a batch with more than 1,000 DT, beside reason 12.
+const OF_MANY_TAS: [&str; 2] = ["sound", "rejected, but not for 12"];
+
+fn many_tas_words(said: &str, letter: &str) -> String {
+    format!("more than 1,000 DT, {said}, in B{letter}")
+}
+
+fn has_many_tas(records: &[u8]) -> bool {
+    let is_tas = |record: &&[u8]| code_of(record) == "DT";
+    records.len() > 1_000 * RECORD && records.chunks(RECORD).filter(is_tas).count() > 1_000
+}
+
 impl Counts {
     fn add(&mut self, key: String, count: u64) {
         *self.0.entry(key).or_default() += count;
@@ -88,9 +100,13 @@ impl Counts {
 
     fn count(&mut self, answer: u64, file: &[u8], report: &[u8]) {
         self.add(answer_words(answer / 100_000), 1);
-        for [first, _, _, _, _, reason, _, field] in rows(report).skip(1).filter(|_| answer == 0) {
-            let code = code_of(&file[(first as usize - 1) * RECORD..]);
-            self.add(row_words(reason, field, &code[1..]), 1);
+        for [first, records, _, _, _, reason, _, field] in rows(report).skip(1).filter(|_| answer == 0) {
+            let batch = &file[(first as usize - 1) * RECORD..][..records as usize * RECORD];
+            let letter = &code_of(batch)[1..];
+            self.add(row_words(reason, field, letter), 1);
+            if reason != 12 && has_many_tas(batch) {
+                self.add(many_tas_words(OF_MANY_TAS[usize::from(reason > 0)], letter), 1);
+            }
         }
     }
 
@@ -113,6 +129,14 @@ impl Counts {
             print!("{reason:>4} {field:>4}");
             for letter in letters.split("").filter(|letter| !letter.is_empty()) {
                 print!("   B{letter} {:>6}", self.take(row_words(reason, field, letter), &mut not_seen));
+            }
+            println!();
+        }
+        println!("batches with more than 1,000 DT, beside those of reason 12:");
+        for said in OF_MANY_TAS {
+            print!("{said:>28}");
+            for letter in ["N", "C", "W", "I", "A"] {
+                print!("   B{letter} {:>6}", self.take(many_tas_words(said, letter), &mut not_seen));
             }
             println!();
         }

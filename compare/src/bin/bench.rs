@@ -15,19 +15,30 @@ const ROUNDS: usize = 9;
 const LOCATIONS: usize = 200_000;
 const SIZES: [usize; 3] = [1_000, 8_000, 65_535];
 const SYMBOL: u128 = 1_234;
+const MAIN: u128 = 1_234;
+/// The most kinds of TAS/BETC in a batch (02 W1).
+const KINDS: usize = 1_000;
 
 type Id = [u8; 20];
+
+/// The kind of a DT: its main account, and its BETC by number.
+type Account = (u128, usize);
 
 /// Locations are told apart by their last digits, as offices of one agency are.
 fn location(number: usize) -> u128 {
     10_000_000 + number as u128 * 97
 }
 
-fn sound_book(locations: usize) -> Vec<u8> {
+fn betc(number: usize) -> String {
+    format!("BETC{number:03}")
+}
+
+/// With so many locations, and BETC by their numbers and flags.
+fn sound_book(locations: usize, betcs: impl Iterator<Item = (usize, u8)>) -> Vec<u8> {
     let mut sound = Book::default();
     sound.add_text(book::INPUT_SYSTEMS, "SYSTEM", 0);
     (0..locations).for_each(|number| sound.add_text(book::LOCATIONS, &format!("{:08}", location(number)), 0));
-    (0..200).for_each(|number| sound.add_text(book::BETC, &format!("BETC{number:03}"), number % 2));
+    betcs.for_each(|(number, flag)| sound.add_text(book::BETC, &betc(number), flag));
     let lists: [(usize, &[&str]); 4] = [
         (book::PAYMENT_TYPES, &["Grant", "Salary", "Vendor"]),
         (book::STATES, &["CA", "MD", "VA"]),
@@ -144,11 +155,11 @@ impl File {
         set_text(party, 66, "Ann Example");
     }
 
-    fn account(&mut self, id: &Id, cents: u128, betc: usize) {
+    fn account(&mut self, id: &Id, cents: u128, (main, number): Account) {
         let account = add_record(&mut self.bytes, "DT");
         set(account, 77, id);
-        set_numbers(account, [(80, 20), (84, 1_234), (85, 0), (87, cents)]);
-        set_text(account, 86, &format!("BETC{betc:03}"));
+        set_numbers(account, [(80, 20), (84, main), (85, 0), (87, cents)]);
+        set_text(account, 86, &betc(number));
     }
 
     fn procure(&mut self, id: &Id, cents: u128) {
@@ -249,7 +260,7 @@ fn batches_of_four(records: usize, schedule_numbers: &[u64]) -> Vec<u8> {
     file.end(&id)
 }
 
-/// Payments with 30 DT, half of them credits, and 10 DP; 33 payments a batch, as 1,000 DT are the most.
+/// Payments with 30 DT, half of them credits, and 10 DP; 33 payments a batch.
 fn many_accounts(records: usize) -> Vec<u8> {
     let mut file = File::new(records);
     let mut id = digits(0);
@@ -265,10 +276,50 @@ fn many_accounts(records: usize) -> Vec<u8> {
         if file.room() < 2 * 45 {
             break;
         }
-        (0..30).for_each(|number| file.account(&id, [2_000, 1_000][number % 2], 3 * number));
+        (0..30).for_each(|number| file.account(&id, [2_000, 1_000][number % 2], (MAIN, 3 * number)));
         (0..10).for_each(|_| file.procure(&id, 1_500));
     }
     file.end(&id)
+}
+
+/// The DT of a file that is one batch of payments with a DX and 100 DT each, the last with what has room.
+fn accounts_of_one(records: usize) -> usize {
+    let payments = (records - 4) / 102;
+    payments * 100 + ((records - 4) % 102).saturating_sub(2)
+}
+
+/// One BN batch of such payments, its DT debits of these kinds.
+fn batch_of_accounts(records: usize, accounts: &[Account]) -> Vec<u8> {
+    let mut file = File::new(records);
+    file.open('N', 1, location(5));
+    let mut id = digits(0);
+    for (payment, accounts) in accounts.chunks(100).enumerate() {
+        id = digits(payment as u64);
+        file.pay(&id, 100 * accounts.len() as u128);
+        if file.room() <= accounts.len() + 2 {
+            (accounts.len()..file.room()).for_each(|_| file.party(&id));
+        }
+        accounts.iter().for_each(|account| file.account(&id, 100, *account));
+    }
+    file.end(&id)
+}
+
+fn kinds_shuffled(count: usize) -> Vec<Account> {
+    let main = |number: u64| u128::from(number) % KINDS as u128;
+    shuffled(count).into_iter().map(|number| (main(number), 0)).collect()
+}
+
+/// All but the last four bytes are shared.
+fn kinds_that_fall(count: usize) -> Vec<Account> {
+    let numbers = descending(count).into_iter();
+    numbers.map(|number| (MAIN, number as usize % KINDS)).collect()
+}
+
+/// The last DT alone is of one more kind.
+fn kinds_and_one_more(count: usize) -> Vec<Account> {
+    let mut accounts = kinds_shuffled(count - 1);
+    accounts.push((KINDS as u128, 0));
+    accounts
 }
 
 fn checks(records: usize) -> Vec<u8> {
@@ -520,12 +571,15 @@ fn main() {
             exit(3);
         }
     };
-    let (small, large) = (sound_book(1_000), sound_book(LOCATIONS));
+    let of_both_flags = || (0..200).map(|number| (number, number as u8 % 2));
+    let (small, large) = (sound_book(1_000, of_both_flags()), sound_book(LOCATIONS, of_both_flags()));
+    let debits = sound_book(1_000, (0..KINDS).map(|number| (number, 0)));
     println!("| file | records | bare scan, ms | Rust judge, ms | proved judge, ms | proved / Rust | proved / scan | times (a) |");
     println!("|---|---|---|---|---|---|---|---|");
     for records in sizes {
         let ids = |numbers: Vec<u64>| numbers.into_iter().map(digits).collect::<Vec<_>>();
         let (payments, batches) = (payments_of_one(records), batches_of_four_in(records));
+        let accounts = accounts_of_one(records);
         let classes = sieve::classes(records - 2);
         type Make<'a> = &'a dyn Fn() -> Vec<u8>;
         let ordinary: [(&str, Make, &[u8]); 6] = [
@@ -635,10 +689,30 @@ fn main() {
                 1,
             ),
         ];
+        // The same, where the file has room for more kinds than a batch may have.
+        let of_kinds: [(&str, Make, usize); 3] = [
+            (
+                "(g) one batch, 100 DT a payment, 1,000 kinds shuffled",
+                &|| batch_of_accounts(records, &kinds_shuffled(accounts)),
+                0,
+            ),
+            (
+                "(h) as (g), kinds share 28 bytes and descend",
+                &|| batch_of_accounts(records, &kinds_that_fall(accounts)),
+                0,
+            ),
+            (
+                "(i) as (g), the last DT of the 1,001st kind: batch rejected",
+                &|| batch_of_accounts(records, &kinds_and_one_more(accounts)),
+                1,
+            ),
+        ];
         let ordinary = ordinary.map(|(name, make, book)| (name, make, book, 0));
         let hostile = hostile.map(|(name, make, rejected)| (name, make, &small[..], rejected));
+        let of_kinds = of_kinds.map(|(name, make, rejected)| (name, make, &debits[..], rejected));
+        let of_kinds = of_kinds.into_iter().filter(|_| accounts > KINDS);
         let mut proved_a = None;
-        for (name, make, book, rejected) in ordinary.into_iter().chain(hostile) {
+        for (name, make, book, rejected) in ordinary.into_iter().chain(hostile).chain(of_kinds) {
             let times = measure(name, &make(), book, rejected);
             print(name, records, times, *proved_a.get_or_insert(times[2]));
         }

@@ -50,13 +50,33 @@ impl Book {
         (1..=7).map(|kind| Part::new(kind, self.0[kind - 1].concat())).collect()
     }
 
-    /// A code that a sound record may hold, and its last byte or flag: no byte below 40 and not blank.
+    /// Adds codes that differ in one byte from one of flag 0: one for each of its bytes.
+    pub fn add_beside(&mut self, kind: usize, random: &Random) {
+        let code = self.code(kind, Some(0), random).map_or(Vec::new(), |(code, _)| code.to_vec());
+        for place in 0..code.len() {
+            let mut beside = code.clone();
+            beside[place] = random.byte(BLANK, 0xFF);
+            self.add(kind, &beside, random.below(2) as u8);
+        }
+    }
+
     pub fn code(&self, kind: usize, flag: Option<u8>, random: &Random) -> Option<(&[u8], u8)> {
+        self.find(kind, |_, last| flag.is_none_or(|flag| flag == last), random)
+    }
+
+    /// One that differs from this code in one byte.
+    pub fn code_beside(&self, kind: usize, code: &[u8], random: &Random) -> Option<(&[u8], u8)> {
+        let differ = |other: &[u8]| code.iter().zip(other).filter(|(one, other)| one != other).count();
+        self.find(kind, |other, _| differ(other) == 1, random)
+    }
+
+    /// A code that a sound record may hold, and its last byte or flag: no byte below 40 and not blank.
+    fn find(&self, kind: usize, is_wanted: impl Fn(&[u8], u8) -> bool, random: &Random) -> Option<(&[u8], u8)> {
         let (section, width) = (&self.0[kind - 1], WIDTHS[kind - 1]);
         let fits = |code: &[u8]| code.iter().all(|&byte| byte >= BLANK) && code.iter().any(|&byte| byte != BLANK);
         let (before, after) = section.split_at(random.index(section.len() + 1));
         let mut entries = after.iter().chain(before).map(|entry| (&entry[..width], entry[entry.len() - 1]));
-        entries.find(|(code, last)| flag.is_none_or(|flag| flag == *last) && fits(code))
+        entries.find(|(code, last)| is_wanted(code, *last) && fits(code))
     }
 
     /// Fills the book up to `size` bytes: payment types that begin with zero bytes, and a few states for the rest.

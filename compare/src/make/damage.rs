@@ -66,7 +66,12 @@ struct Aim<'a> {
 }
 
 pub fn plan(batches: &[Batch], random: &Random) -> Vec<Planned> {
-    let count = random.pick(&[0, 0, 1, 1, 1, 1, 1, 2, 2, 2, 3, random.between(4, 7)]);
+    // Few batches of planned kinds are drawn, and one fault hides what is said of their kinds.
+    let whole = batches.iter().any(|batch| batch.kinds.is_some()) && random.chance(2);
+    let count = match whole {
+        true => 0,
+        false => random.pick(&[0, 0, 1, 1, 1, 1, 1, 2, 2, 2, 3, random.between(4, 7)]),
+    };
     let batch = random.chance(2).then(|| random.index(batches.len()));
     let (file_alone, long) = (random.chance(12), batches.len() > 20 || batches[0].payments.len() > 20);
     let aim = Aim {

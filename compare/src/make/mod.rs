@@ -11,7 +11,7 @@ use std::fmt::Write;
 
 use crate::layout::{FIELDS, RECORD};
 use crate::random::{mix, Random};
-use book::{random_book, write_damaged, Book, BookDamage, LARGEST};
+use book::{random_book, write_damaged, Book, BookDamage, BETC, LARGEST};
 use damage::{Damage, Planned, Target, When};
 use sound::{Batch, Place, Style, Writer};
 
@@ -108,6 +108,9 @@ impl Recipe {
         input.file.clear();
         input.places.clear();
         let mut book = random_book(random);
+        if self.batches.iter().any(|batch| batch.kinds.is_some()) {
+            book.add_beside(BETC, random);
+        }
         self.make_file(&book, dropped, random, input);
         input.book.clear();
         match self.large_book {
@@ -162,8 +165,11 @@ impl Recipe {
         let _ = writeln!(text, "{:?}", self.style);
         let stays = |place| !dropped.contains(&Piece::Record(place));
         let batches = self.batches.iter().enumerate();
-        for (batch, Batch { letter, payments, .. }) in batches.filter(|(batch, _)| stays(Place::Header(*batch))) {
-            let payments = payments.iter().enumerate();
+        for (batch, plan) in batches.filter(|(batch, _)| stays(Place::Header(*batch))) {
+            let (letter, payments) = (plan.letter, plan.payments.iter().enumerate());
+            if let Some(kinds) = plan.kinds {
+                let _ = writeln!(text, "B{letter} {batch}: {kinds:?}");
+            }
             for (payment, plan) in payments.filter(|(payment, _)| stays(Place::Detail(batch, *payment))) {
                 let stays = |sub: &usize| stays(Place::Sub(batch, payment, *sub));
                 let (parties, tas, subs) = plan.ends();

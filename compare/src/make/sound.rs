@@ -30,6 +30,28 @@ pub struct Batch {
     pub seed: u64,
     pub letter: char,
     pub payments: Vec<Payment>,
+    /// Those of its DT, where they are planned.
+    pub kinds: Option<Kinds>,
+}
+
+/// 02 W1: how the DT of a batch take their kinds of TAS/BETC, by their numbers in the batch.
+#[derive(Clone, Copy, Debug)]
+pub struct Kinds {
+    /// So many are taken in turn.
+    in_turn: usize,
+    /// Ascending, descending or shuffled.
+    step: usize,
+    /// The only DT of one more kind.
+    alone: Option<usize>,
+}
+
+impl Kinds {
+    fn of(&self, tas: usize) -> usize {
+        match self.alone == Some(tas) {
+            true => self.in_turn,
+            false => tas * self.step % self.in_turn,
+        }
+    }
 }
 
 /// A record by its place in the plan, which stays when others are dropped.
@@ -49,7 +71,7 @@ const TOGETHER: [&str; 4] = ["NWIA", "NWIA", "NWIA", "C"];
 
 pub fn plan(random: &Random) -> Vec<Batch> {
     let (batches, payments, parties, others) = match random.below(400) {
-        0 | 1 => return vec![plan_many_tas(random)],
+        0 | 1 => return plan_many_tas(random),
         2 => (random.rarely(8, 2_000, 200), 1, 1, 0),
         3 => (1, random.rarely(8, 2_000, 200), 1, 1),
         4..=60 => (8, 8, 2, 3),
@@ -92,18 +114,47 @@ pub fn plan_batch(letters: &str, counts: Vec<[usize; 3]>, random: &Random) -> Ba
         seed: random.draw(),
         letter,
         payments,
+        kinds: None,
     }
 }
 
-/// 01 reason 12: 999 to 1,002 TAS/BETC in the batch.
-fn plan_many_tas(random: &Random) -> Batch {
-    let mut counts = vec![[1, 100, 0]; 10];
-    match random.below(5) {
-        0 => counts[random.index(10)][1] = 99,
-        1 => {}
-        more => counts.insert(random.index(11), [1, more as usize / 2, 0]),
+/// 02 W1: a batch with more than 1,000 DT of few kinds or with about 1,000 kinds, or two batches that have more than 1,000 together.
+fn plan_many_tas(random: &Random) -> Vec<Batch> {
+    let letters = random.pick(&TOGETHER);
+    let batch = |kinds, tas| plan_kinds(letters, kinds, tas, random);
+    let mut batches = match random.below(16) {
+        0..=3 => {
+            let kinds = random.pick(&[1, 1, 2, 5, random.between(6, 60), random.between(61, 997)]);
+            vec![batch(kinds as usize, random.pick(&[1_000, 1_001, 1_002, 1_001 + random.index(60)]))]
+        }
+        4 | 5 => [700, 700].map(|kinds| batch(kinds, kinds + random.index(20))).into(),
+        _ => {
+            let (kinds, more) = (998 + random.index(6), random.pick(&[0, 1, 2, random.index(60)]));
+            vec![batch(kinds, kinds + random.rarely(40, random.index(7_000), more))]
+        }
+    };
+    if random.chance(4) {
+        batches.insert(0, plan_batch(letters, vec![[1, 2, 0]], random));
     }
-    plan_batch(random.pick(&TOGETHER), counts, random)
+    batches
+}
+
+/// A batch with so many kinds and so many DT.
+fn plan_kinds(letters: &str, kinds: usize, tas: usize, random: &Random) -> Batch {
+    let each = random.pick(&[100, 100, 100, 100, 100, 100, 100, 60, 30, 1]);
+    let (mut counts, rest) = (vec![[1, each, 0]; tas / each], tas % each);
+    if rest > 0 {
+        counts.insert(random.index(counts.len() + 1), [1, rest, 0]);
+    }
+    let alone = (1 < kinds && kinds < tas && random.chance(3)).then(|| random.rarely(4, 0, tas - 1));
+    let in_turn = kinds - usize::from(alone.is_some());
+    // The steps have no factor in common with so many kinds.
+    let step = random.pick(&[1, in_turn - 1, 7_919]);
+    let kinds = Some(Kinds { in_turn, step, alone });
+    Batch {
+        kinds,
+        ..plan_batch(letters, counts, random)
+    }
 }
 
 /// One payment in a file of so many records.
@@ -149,6 +200,9 @@ impl Style {
         };
         let (noisy, same_ids_in_each_batch, off_balance) = (random.chance(3), random.chance(2), random.chance(20));
         let (first, step) = (random.index(1_000_000), random.pick(&[1, 999_999, 7_919]));
+        // A Payment ID's last byte stands beside the kind of a DT.
+        let at_the_end = batches.iter().any(|batch| batch.kinds.is_some()) && random.chance(2);
+        let first = if at_the_end { first / 15 * 15 + 14 } else { first };
         Style {
             noisy,
             amounts,
@@ -211,14 +265,87 @@ fn tas_amounts(payment: u128, credits: &[bool], random: &Random) -> Vec<u128> {
     credits.iter().filter_map(amount).collect()
 }
 
-/// What a payment's other records take from its detail.
+/// A BETC and its flag; nothing is a blank one.
+type Betc<'a> = Option<(&'a [u8], u8)>;
+
+/// What the kinds of a batch's DT hold: the same in fields 78 to 85 but for two bytes, or any text; and a BETC.
+struct Accounts<'a> {
+    kinds: Kinds,
+    seed: u64,
+    fields: [u8; 24],
+    two_bytes: Option<[usize; 2]>,
+    first_byte: usize,
+    codes: Vec<Betc<'a>>,
+}
+
+impl<'a> Accounts<'a> {
+    /// Now and then one kind is all blank, if it may be.
+    fn new(batch: &Batch, kinds: Kinds, book: &'a Book) -> Accounts<'a> {
+        let seed = mix(batch.seed);
+        let random = &Random::new(seed);
+        let reporter = batch.payments.iter().any(|payment| payment.reporter);
+        let mut fields = [BLANK; 24];
+        match random.chance(3) {
+            true => random.fill_text(&mut fields),
+            false if reporter => fields.fill(0xF0),
+            false => {}
+        }
+        let (one, other) = (random.index(24), 1 + random.index(23));
+        let two_bytes = (!random.chance(4)).then_some([one, (one + other) % 24]);
+        let debit = || book.code(BETC, Some(0), random);
+        let mut codes = vec![if !reporter && random.chance(2) { None } else { debit() }];
+        for flag in [1, 0, 1, 0, 1, 0, 1].into_iter().take(random.index(8)) {
+            let last = codes[codes.len() - 1];
+            let beside = last.and_then(|(code, _)| book.code_beside(BETC, code, random));
+            let code = random.rarely(3, None, beside).or_else(|| book.code(BETC, Some(flag), random));
+            if !codes.contains(&code) {
+                codes.push(code);
+            }
+        }
+        Accounts {
+            kinds,
+            seed,
+            fields,
+            two_bytes,
+            first_byte: random.pick(&[0, 0, 1, 160, random.index(192)]),
+            codes,
+        }
+    }
+
+    /// Fields 78 to 85 and the BETC of the batch's DT with this number. Kinds that differ in the BETC alone stand together.
+    fn of(&self, tas: usize) -> ([u8; 24], Betc<'a>) {
+        let kind = self.kinds.of(tas);
+        let (rest, mut fields) = (kind / self.codes.len(), self.fields);
+        match self.two_bytes {
+            Some([one, other]) => {
+                let text = |digit| BLANK + ((self.first_byte + digit) % 192) as u8;
+                fields[one] = text(rest % 32);
+                fields[other] = text(rest / 32);
+            }
+            None => Random::new(self.seed ^ mix(rest as u64)).fill_text(&mut fields),
+        }
+        (fields, self.codes[kind % self.codes.len()])
+    }
+}
+
+/// What a payment's other records take from its batch and its detail.
 struct Owner<'a> {
     batch: usize,
     payment: usize,
     letter: char,
     plan: &'a Payment,
+    accounts: Option<&'a Accounts<'a>>,
+    /// The number in the batch of the payment's first DT.
+    first_tas: usize,
     id: [u8; 20],
     amount: u128,
+}
+
+impl<'a> Owner<'a> {
+    /// Fields 78 to 85 and the BETC of a DT, where they are planned.
+    fn account(&self, sub: usize) -> Option<([u8; 24], Betc<'a>)> {
+        self.accounts.map(|accounts| accounts.of(self.first_tas + sub - self.plan.parties))
+    }
 }
 
 pub struct Writer<'a> {
@@ -266,8 +393,11 @@ impl<'a> Writer<'a> {
         let last = 100_000_000 - batch.payments.len() as u64;
         let first_serial = random.rarely(5, random.pick(&[last, last, last + 1, 0]), random.below(last));
         self.header(number, batch, u128::from(symbol), u128::from(first_serial), random);
-        let mut serial = first_serial;
+        let accounts = batch.kinds.map(|kinds| Accounts::new(batch, kinds, self.book));
+        let (mut serial, mut tas) = (first_serial, 0);
         for (payment, plan) in batch.payments.iter().enumerate() {
+            let first_tas = tas;
+            tas += plan.tas;
             if self.stays(Place::Detail(number, payment)) {
                 let check = symbol * 100_000_000 + serial % 100_000_000;
                 let check = (batch.letter == 'C').then_some(u128::from(check));
@@ -277,6 +407,8 @@ impl<'a> Writer<'a> {
                     payment,
                     letter,
                     plan,
+                    accounts: accounts.as_ref(),
+                    first_tas,
                     id,
                     amount: 0,
                 });
@@ -367,12 +499,18 @@ impl<'a> Writer<'a> {
 
     fn tas(&mut self, owner: &Owner, kept: &[usize]) {
         let random = &Random::new(mix(owner.plan.seed));
-        let codes = self.betc(owner, kept.len(), random);
+        let codes = match owner.accounts {
+            Some(_) => kept.iter().filter_map(|&sub| owner.account(sub)).map(|(_, code)| code).collect(),
+            None => self.betc(owner, kept.len(), random),
+        };
         let credits: Vec<_> = codes.iter().map(is_credit).collect();
         let amounts = tas_amounts(self.style.goal(owner.amount, random), &credits, random);
         for ((&sub, code), amount) in kept.iter().zip(codes).zip(amounts) {
             let (record, random) = self.sub("DT", owner, sub);
-            if !owner.plan.reporter {
+            if let Some((fields, _)) = owner.account(sub) {
+                record[place(78).start..place(85).end].copy_from_slice(&fields);
+                set_text(record, 88, random.pick(&["", "0", "1"]));
+            } else if !owner.plan.reporter {
                 set_text(record, random.pick(&[80, 84, 85]), "");
             }
             set_code(record, 86, code);
@@ -381,7 +519,7 @@ impl<'a> Writer<'a> {
     }
 
     /// Codes with a debit or a blank one among several, but for some off balance.
-    fn betc(&self, owner: &Owner, count: usize, random: &Random) -> Vec<Option<(&'a [u8], u8)>> {
+    fn betc(&self, owner: &Owner, count: usize, random: &Random) -> Vec<Betc<'a>> {
         let credits_only = (self.style.off_balance && random.chance(4)).then_some(1);
         let blank = || !owner.plan.reporter && random.chance(3);
         let code = |_| {
@@ -411,7 +549,7 @@ impl<'a> Writer<'a> {
     }
 }
 
-fn is_credit(code: &Option<(&[u8], u8)>) -> bool {
+fn is_credit(code: &Betc) -> bool {
     code.is_some_and(|(_, flag)| flag == 1)
 }
 
