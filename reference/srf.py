@@ -346,7 +346,7 @@ def batch_row(batch, book, earlier):
 
 def is_low(rec):
     fillers = FILLERS[code_of(rec)]
-    return any(x < 0x40 for i, x in enumerate(rec, 1) if not any(start <= i <= end for start, end in fillers))
+    return any(not any(start <= i <= end for start, end in fillers) for i, x in enumerate(rec, 1) if x < 0x40)
 
 
 def reasons(file, book, room):
