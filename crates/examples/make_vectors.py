@@ -107,8 +107,8 @@ def code(start, data, count=None):
 
 
 def kinds(count, last=34):
-    """The DT of the file are of so many kinds, in a row, again and again. These differ in four digits, which end at a position: in
-    field 81."""
+    """The DT of the file are of so many kinds, in a row, again and again. These differ in four digits that end at a position; those of
+    34 are field 81. Two such changes whose counts have no common divisor make the product of them, in no order."""
     return "kinds", count, last
 
 
@@ -489,6 +489,9 @@ add("1092 DT of 1000 kinds", [("N", 12, 1, 91, 0)], kinds(1000), expect=SOUND)
 add("1092 DT of 1001 kinds", [("N", 12, 1, 91, 0)], kinds(1001), expect=fault(12, 2, 76))
 add("1000 kinds, each three times", [("A", 30, 1, 100, 0)], kinds(1000), expect=SOUND)
 add("1001 kinds, each twice", [("C", 22, 1, 91, 0)], kinds(1001), expect=fault(12, 2, 76))
+add("1000 kinds in no order, 1092 DT", [("N", 12, 1, 91, 0)], kinds(8, 30), kinds(125), expect=SOUND)
+add("1001 kinds in no order", [("N", 11, 1, 91, 0)], kinds(7, 30), kinds(143), expect=fault(12, 2, 76))
+add("1001 kinds among DX and DP", [("I", 11, 2, 91, 1)], kinds(1001), expect=fault(12, 2, 76))
 add("1001 kinds in the second batch", [N, ("I", 11, 1, 91, 0)], kinds(1001), expect=fault(12, 6, 76, 2))
 add("1001 kinds in the first batch of two", [("I", 11, 1, 91, 0), N], kinds(1001), expect=fault(12, 2, 76))
 add("1001 kinds in each of two batches", [("A", 11, 1, 91, 0), ("N", 11, 1, 91, 0)], kinds(1001), expect={1: (12, 2, 76), 2: (12, 1027, 76)})

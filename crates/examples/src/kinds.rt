@@ -4,6 +4,7 @@ use crate::files;
 use crate::files::SPACE;
 ghost use Prim.Native.Nat.{_≤_, _<_};
 
+// Whether the record at a place is a DT.
 fn is_account(file: &[u8; SPACE], place: usize) -> bool
     requires { ⌜ place < 3700 ⌝ }
 {
