@@ -8,7 +8,7 @@ import re
 LETTERS = "NCWIA"
 VOUCHERS = "NWIA"  # the batches that have a voucher (004 fields 7 to 14)
 
-# 004 chapter 2: start and end position of each field that document 01 names, by the records that have it
+# 004 chapter 2: start and end position of each field that a rule names, by the records that have it
 PLACES = {
     2: (3, 42), 3: (43, 45),
     6: (3, 16), 7: (17, 22), 8: (23, 32), 9: (33, 52), 10: (53, 56), 12: (60, 68), 13: (69, 77), 14: (78, 85), 15: (86, 89),
@@ -16,7 +16,8 @@ PLACES = {
     23: (3, 22), 24: (23, 42), 25: (43, 43), 26: (44, 90), 28: (107, 131), 29: (132, 139), 35: (350, 351), 36: (352, 356),
     38: (361, 362), 42: (426, 434), 43: (435, 443), 44: (444, 446), 48: (506, 507), 51: (526, 545), 52: (546, 548),
     54: (560, 573), 55: (574, 593), 56: (594, 603), 58: (654, 661), 59: (662, 669), 62: (674, 676),
-    65: (3, 22), 66: (23, 172), 77: (3, 22), 80: (28, 30), 84: (40, 43), 85: (44, 46), 86: (47, 54), 87: (55, 74), 88: (75, 75),
+    65: (3, 22), 66: (23, 172), 77: (3, 22), 78: (23, 24), 79: (25, 27), 80: (28, 30), 81: (31, 34), 82: (35, 38), 83: (39, 39),
+    84: (40, 43), 85: (44, 46), 86: (47, 54), 87: (55, 74), 88: (75, 75),
     91: (3, 22), 96: (131, 150), 99: (3, 10), 100: (11, 30), 103: (3, 20), 104: (21, 38), 105: (39, 58),
 }
 
@@ -278,6 +279,11 @@ def procures(paid, procurements):
     return sum(map(cents, values)) == paid
 
 
+def kind(t):
+    """The kind of a TAS/BETC: positions 23 to 54 (W1; 004 fields 78 to 86), blank ones too."""
+    return bytes(t[22:54])
+
+
 def trailer_faults(t, payments, total):
     yield 99, number(held(t, 99)) or first((int(held(t, 99)) != payments, 13))
     yield 100, number(held(t, 100)) or first((int(held(t, 100)) != total, 14))
@@ -317,7 +323,7 @@ def faults(batch, book, repeats):
         yield first((not balances(paid_by(payment), [r for _, r in accounts], book), 9)), n, 87
         yield first((not procures(paid_by(payment), [r for _, r in procurements]), 10)), n, 96
         yield first((reporter and not accounts, 11)), n, 76
-    yield first((sum(len(of_code(p, "DT")) for p in payments) > 1000, 12)), head, 76
+    yield first((len({kind(r) for p in payments for _, r in of_code(p, "DT")}) > 1000, 12)), head, 76
     total = sum(map(paid_by, payments))
     yield from ((reason, end, field) for field, reason in trailer_faults(t, len(payments), total))
     if letter != "C" and is_digits(held(h, 9)):
@@ -340,7 +346,7 @@ def batch_row(batch, book, earlier):
 
 def is_low(rec):
     fillers = FILLERS[code_of(rec)]
-    return any(x < 0x40 for i, x in enumerate(rec, 1) if not any(start <= i <= end for start, end in fillers))
+    return any(not any(start <= i <= end for start, end in fillers) for i, x in enumerate(rec, 1) if x < 0x40)
 
 
 def reasons(file, book, room):

@@ -11,7 +11,7 @@ import sys
 here = pathlib.Path(__file__).parent
 sys.path.insert(0, str(here.parent.parent / "reference"))
 from srf import (  # noqa: E402
-    LETTERS, PLACES, SYMBOL, VOUCHERS, amount, coded, ebcdic, faults, flagged, is_header, legal, paid_by, parsed,
+    LETTERS, PLACES, SYMBOL, VOUCHERS, amount, code_of, coded, ebcdic, faults, flagged, is_header, legal, paid_by, parsed,
     payments_of, record, section, split, templates, write_cases,
 )
 LABEL = 48
@@ -51,13 +51,15 @@ def with_two(rec, n, *positions):
 
 
 def whole(letter, shape):
-    """FH, a sound batch of this shape, FT. Payments are numbered from 0 in their IDs and in field 58; each is of 100 cents."""
+    """FH, a sound batch of this shape, FT. Payments are numbered from 0 in their IDs and in field 58; each is of 100 cents. A DT has its
+    place in the file, from 0, in field 81: it is of a kind of its own."""
     payments, parties, accounts, procurements = shape
     head, detail, dx, dt, dts, dp, dps, end = TEMPLATES[letter]
     one = [detail] + [dx] * parties + ([dt] + [dts] * (accounts - 1)) * (accounts > 0) + ([dp] + [dps] * (procurements - 1)) * (procurements > 0)
     records = [bytearray(ENDS[0]), with_two(head, payments, 49)]
     for n in range(payments):
         records += [with_two(rec, n, 13, 660) for rec in one]
+    records = [with_two(with_two(rec, i // 100, 31), i % 100, 33) if code_of(rec) == "DT" else rec for i, rec in enumerate(records)]
     return records + [with_two(end, payments, 9, 27), bytearray(ENDS[1])]
 
 
@@ -332,8 +334,8 @@ add("a location that the book lacks is no reporter", "C", [put(DETAIL, 29, "9999
 add("a reporter by field 14 is none in a check batch", "C", [put(HEAD, 14, "00001234")], shape=(1, 1, 0, 0))
 add("a reporter by field 29 is none elsewhere", "W", [put(DETAIL, 29, "00001234")], shape=(1, 1, 0, 0))
 add("one check of a reporter, one of another", "C", [put(7, 29, "00001234"), put(9, 80, "")], shape=(2, 1, 1, 1), expect=(1, 9, 80))
-add("1,000 DT", "W", shape=(10, 1, 100, 0))
-add("1,000 DT in a check batch", "C", shape=(10, 1, 100, 0))
+add("1,000 kinds of DT", "W", shape=(10, 1, 100, 0))
+add("1,000 kinds of DT in a check batch", "C", shape=(10, 1, 100, 0))
 add("100 DT and 100 DP", "A", shape=(1, 1, 100, 100))
 
 # 01 Report: counts and totals, whatever the faults

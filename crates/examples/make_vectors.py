@@ -56,14 +56,15 @@ def repeated(one, other, count):
 
 
 def whole(batches):
-    """FH, sound batches, FT. Batches and payments are numbered from 0; each payment is of 100 cents."""
+    """FH, sound batches, FT. Batches and payments are numbered from 0; each payment is of 100 cents. All DT are of one kind."""
     records = [bytearray(ENDS[0])]
     for b, (letter, payments, parties, accounts, procurements) in enumerate(batches):
         head, detail, dx, dt, dts, dp, dps, end = TEMPLATES[letter]
         records.append(written(head, (12, "%02d" % b), (108, "%02d" % b), (50, "%04d" % payments)))
         for n in range(payments):
             one = [detail] + [dx] * parties + repeated(dt, dts, accounts) + repeated(dp, dps, procurements)
-            records += [written(rec, (14, "%02d%02d" % (b, n)), (661, "%02d%02d" % (b, n))) for rec in one]
+            number = "%04d" % ((b * 100 + n) % 10000)
+            records += [written(rec, (14, number), (661, number)) for rec in one]
         records.append(written(end, (10, "%04d" % payments), (28, "%04d" % payments)))
     payments = sum(b[1] for b in batches)
     return records + [written(ENDS[1], (20, "%04d" % (len(records) + 1)), (38, "%04d" % payments), (56, "%04d" % payments))]
@@ -105,6 +106,12 @@ def code(start, data, count=None):
     return "code", start + 1, start + (count or len(data)), data
 
 
+def kinds(count, last=34):
+    """The DT of the file are of so many kinds, in a row, again and again. These differ in four digits that end at a position; those of
+    34 are field 81. Two such changes whose counts have no common divisor make the product of them, in no order."""
+    return "kinds", count, last
+
+
 def fill(space, start, end, data):
     for i in range(start - 1, end):
         space[i] = data[(i - start + 1) % len(data)]
@@ -120,6 +127,11 @@ def lent(batches, changes, file, book):
         elif kind == "digits":
             rec, last, digits = rest
             records[rec - 1] = written(records[rec - 1], (last, digits))
+        elif kind == "kinds":
+            count, last = rest
+            places = [i for i, rec in enumerate(records) if code_of(rec) == "DT"]
+            for n, i in enumerate(places):
+                records[i] = written(records[i], (last, "%04d" % (n % count)))
         else:
             fill(codes, *rest)
     bytes_of_file = b"".join(map(bytes, records))
@@ -457,14 +469,65 @@ add("a check of a CARS Reporter without DT", [C], put(3, 29, "00001234"), expect
 add("BT's count differs", [A], money(5, 99, 2), expect=fault(13, 5, 99))
 add("BT's amount differs", [A], money(5, 100, 99), expect=fault(14, 5, 100))
 add("field 9's sum differs", [A], money(2, 9, 99), expect=fault(14, 2, 9))
-add("1000 DT in a batch", [("W", 10, 1, 100, 0)], expect=SOUND)
-add("1001 DT in a batch", [("W", 11, 1, 91, 0)], expect=fault(12, 2, 76))
-add("1001 DT in the second batch", [N, ("I", 11, 1, 91, 0)], expect=fault(12, 6, 76, 2))
-add("1001 DT in two batches", [("N", 6, 1, 91, 0), ("W", 5, 1, 91, 0)], expect=SOUND)
 add("a check's ID that is not its symbol and serial", [C], named("X", 3, 4), expect=fault(7, 3, 23))
 add("a check's serial that is not the next", [C], put(3, 58, "12340001"), named(SYMBOL + "12340001", 3, 4), expect=fault(7, 3, 58))
 add("a schedule number that is not the first check's", [C], put(2, 6, SYMBOL + "12340001"), expect=fault(7, 2, 6))
 add("a symbol below its range", [C], put(2, 18, "0999"), put(2, 6, "0999" + SERIAL), named("0999" + SERIAL, 3, 4), expect=fault(8, 2, 18))
+
+# W1: the limit of TAS/BETC counts kinds, which differ in positions 23 to 54
+LINES = [("W", 11, 1, 91, 0)]  # 1001 DT
+PAYROLL = [("I", 1200, 1, 1, 0)]
+add("1200 payments with one account code", PAYROLL, expect=SOUND)
+add("1200 checks with one account code", [("C", 1200, 1, 1, 0)], expect=SOUND)
+add("1200 payments, 1000 kinds", PAYROLL, kinds(1000), expect=SOUND)
+add("1200 payments, 1001 kinds", PAYROLL, kinds(1001), expect=fault(12, 2, 76))
+add("1001 DT of one kind", LINES, expect=SOUND)
+for letter in LETTERS:
+    add("1000 kinds in a B%s batch" % letter, [(letter, 10, 1, 100, 0)], kinds(1000), expect=SOUND)
+    add("1001 kinds in a B%s batch" % letter, [(letter, 11, 1, 91, 0)], kinds(1001), expect=fault(12, 2, 76))
+add("1092 DT of 1000 kinds", [("N", 12, 1, 91, 0)], kinds(1000), expect=SOUND)
+add("1092 DT of 1001 kinds", [("N", 12, 1, 91, 0)], kinds(1001), expect=fault(12, 2, 76))
+add("1000 kinds, each three times", [("A", 30, 1, 100, 0)], kinds(1000), expect=SOUND)
+add("1001 kinds, each twice", [("C", 22, 1, 91, 0)], kinds(1001), expect=fault(12, 2, 76))
+add("1000 kinds in no order, 1092 DT", [("N", 12, 1, 91, 0)], kinds(8, 30), kinds(125), expect=SOUND)
+add("1001 kinds in no order", [("N", 11, 1, 91, 0)], kinds(7, 30), kinds(143), expect=fault(12, 2, 76))
+add("1001 kinds among DX and DP", [("I", 11, 2, 91, 1)], kinds(1001), expect=fault(12, 2, 76))
+add("1001 kinds in the second batch", [N, ("I", 11, 1, 91, 0)], kinds(1001), expect=fault(12, 6, 76, 2))
+add("1001 kinds in the first batch of two", [("I", 11, 1, 91, 0), N], kinds(1001), expect=fault(12, 2, 76))
+add("1001 kinds in each of two batches", [("A", 11, 1, 91, 0), ("N", 11, 1, 91, 0)], kinds(1001), expect={1: (12, 2, 76), 2: (12, 1027, 76)})
+add("1001 kinds in two batches", [("N", 6, 1, 91, 0), ("W", 5, 1, 91, 0)], kinds(1001), expect=SOUND)
+add("1400 kinds in two batches, 700 in each", [("N", 7, 1, 100, 0), ("W", 7, 1, 100, 0)], kinds(1400), expect=SOUND)
+add("2000 kinds in two batches, 1000 in each", [("C", 10, 1, 100, 0), ("C", 10, 1, 100, 0)], kinds(2000), expect=SOUND)
+
+# 1001 DT of 1000 kinds: the last is as the first, until a change
+(_, payments, end), = numbers(LINES)
+first_dt, last_dt, thousand = payments[0][2], payments[-1][-1], kinds(1000)
+for field, value in [(78, "01"), (79, "020"), (80, "021"), (81, "1000"), (82, "2024"), (83, "X"), (84, "1235"), (85, "001"), (86, CREDIT), (86, "")]:
+    add("a kind more, by field %d%s" % (field, "" if value else " blank"), LINES, thousand, put(last_dt, field, value), expect=fault(12, 2, 76))
+add("a kind more, by position 23", LINES, thousand, at(last_dt, 23, 23, b"\xF1"), expect=fault(12, 2, 76))
+add("a kind more, by position 54", LINES, thousand, at(last_dt, 54, 54, b"\xC1"),
+    code(STARTS[2] + 6, section(3, flagged({"DISB": 0, "DISB   A": 0}))[6:]), expect=fault(12, 2, 76))
+for last in (26, 30, 38, 42, 46):
+    add("1001 kinds by positions %d to %d" % (last - 3, last), LINES, kinds(1001, last), expect=fault(12, 2, 76))
+add("no kind more, by the filler", LINES, kinds(1001, 79), expect=SOUND)
+for value in "1", "", "X":
+    add("no kind more, by field 88 %s" % (value or "blank"), LINES, thousand, put(last_dt, 88, value), expect=SOUND)
+add("no kind more, by the amount", LINES, thousand, money(payments[-1][2], 87, 60), money(last_dt, 87, 40), expect=SOUND)
+add("no kind more, by the amount and field 88", LINES, thousand, money(payments[-1][2], 87, 60), money(last_dt, 87, 40), put(last_dt, 88, "1"), expect=SOUND)
+BLANK_KIND = 23, 54, b"\x40"
+add("a kind more, all blank", LINES, thousand, at(last_dt, *BLANK_KIND), expect=fault(12, 2, 76))
+add("a kind more, all blank, the first", LINES, thousand, at(first_dt, *BLANK_KIND), expect=fault(12, 2, 76))
+add("999 kinds and the blank one", [("W", 10, 1, 100, 0)], thousand, at(numbers([("W", 10, 1, 100, 0)])[0][1][-1][-1], *BLANK_KIND), expect=SOUND)
+add("999 kinds and the blank one twice", LINES, kinds(999), at(last_dt - 1, *BLANK_KIND), at(last_dt, *BLANK_KIND), expect=SOUND)
+
+# W1: its place among the findings
+add("both 12 and BT's count", LINES, kinds(1001), money(end, 99, 12), expect=fault(12, 2, 76))
+add("both 12 and BT's amount", LINES, kinds(1001), put(end, 100, ""), expect=fault(12, 2, 76))
+add("both 12 and field 9's sum", LINES, kinds(1001), money(2, 9, 99), expect=fault(12, 2, 76))
+add("1000 kinds, and BT's count", LINES, thousand, money(end, 99, 12), expect=fault(13, end, 99))
+add("both 12 and the header's field 7", LINES, kinds(1001), put(2, 7, ""), expect=fault(1, 2, 7))
+add("both 12 and the last DT's BETC", LINES, kinds(1001), put(last_dt, 86, "XXXX"), expect=fault(4, last_dt, 86))
+add("both 12 and the last payment's sum", LINES, kinds(1001), money(last_dt, 87, 1), expect=fault(9, payments[-1][0], 87))
 
 # 01 Slips: rejected batches count in the file's totals and keep their place
 THREE = [N, ("W", 2, 1, 0, 0), I]

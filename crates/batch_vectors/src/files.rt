@@ -1,5 +1,5 @@
 // Files of sound records: FH, one batch, FT. Each payment is of 100 cents; payments are numbered from 0 in their IDs and, for checks,
-// in field 58, so that IDs differ and serials follow each other.
+// in field 58, so that IDs differ and serials follow each other. Each DT is of a kind of its own.
 use crate::table::Shape;
 ghost use Prim.Native.Nat.{_≤_, _<_};
 
@@ -113,6 +113,34 @@ fn put_amounts(
     put_times(file, next, at_hand, which + 1, rest_of(count))
 }
 
+// Writes the place of each DT in its field 81 (positions 31 to 34), which no rule reads: a batch has as many kinds as DT.
+fn tell_apart(file: &mut [u8; SPACE], from: usize, to: usize)
+    requires { ⌜ to ≤ 1100 ⌝ }
+{
+    let mut place = from;
+    while place < to {
+        write_two(file, place, 31, place / 100);
+        write_two(file, place, 33, place);
+        place += 1;
+    }
+}
+
+// A payment's DT.
+fn put_accounts(
+    file: &mut [u8; SPACE],
+    place: usize,
+    at_hand: &[u8; AT_HAND],
+    base: usize,
+    count: usize,
+) -> usize
+    requires { ⌜ (place ≤ 1100) × (base ≤ 32) ⌝ }
+    ensures { λ r. ⌜ r ≤ 1100 ⌝ }
+{
+    let end = put_amounts(file, place, at_hand, base + ACCOUNT, count);
+    tell_apart(file, place, end);
+    end
+}
+
 fn put_payment(
     file: &mut [u8; SPACE],
     place: usize,
@@ -126,7 +154,7 @@ fn put_payment(
 {
     let parties = put_times(file, place, at_hand, base + DETAIL, 1);
     let accounts = put_times(file, parties, at_hand, base + PARTY, shape.parties);
-    let procurements = put_amounts(file, accounts, at_hand, base + ACCOUNT, shape.accounts);
+    let procurements = put_accounts(file, accounts, at_hand, base, shape.accounts);
     let end = put_amounts(
         file,
         procurements,

@@ -3,6 +3,7 @@
 //     BN 1 1 0 0         a sound batch of N, C, W, I or A: its payments, and the DX, DT and DP of each
 //     at 4 1 2 C2E3      the bytes of record 4 from position 1 to 2, again and again
 //     digits 3 42 12345  the digits that end at position 42 of record 3
+//     kinds 1001 34      the DT of the file in the four positions that end at 34: their number, from 0, modulo 1001
 //     code 7 46 40       the bytes of the code book from 7 to 46, again and again
 //     file 849           the bytes of the file, where they are not all
 //     book 41            the bytes of the code book
@@ -14,6 +15,7 @@ use crate::files;
 use crate::files::AT_HAND;
 use crate::files::Made;
 use crate::files::SPACE;
+use crate::kinds;
 use crate::table;
 use crate::table::Number;
 use crate::table::Shape;
@@ -128,6 +130,18 @@ fn moved(case: Case, next: usize) -> Case
     }
 }
 
+// The kinds of the file's DT, by the next words: how many, and where the digits end in which they differ.
+fn take_kinds(file: &mut [u8; SPACE], row: &[u8], case: Case, from: usize) -> Case
+    requires { ⌜ Sized (case .made) × (from ≤ length (now row)) ⌝ }
+    ensures { λ r. ⌜ Sized (r .made) × (from ≤ r .next) × (r .next ≤ length (now (row .entry))) ⌝ }
+{
+    let count = table::next_number(row, from);
+    let last = table::next_number(row, count.next);
+    let made = case.made;
+    kinds::change_kinds(file, made.records, count.value, last.value);
+    moved(case, last.next)
+}
+
 fn either(test: bool, one: usize, other: usize) -> usize {
     if test { one } else { other }
 }
@@ -193,6 +207,7 @@ fn take_named(
     match name {
         b'B' => take_batch(file, at_hand, row, case, letter, from),
         b'a' | b'c' | b'd' => take_moved(file, book, row, case, name, from),
+        b'k' => take_kinds(file, row, case, from),
         _ => take_length(row, case, name, from),
     }
 }

@@ -15,7 +15,7 @@ fn end_of(number: usize, position: usize) -> usize
 }
 
 // The place after i, or the first again.
-fn next_of(i: usize, width: usize) -> usize
+pub(crate) fn next_of(i: usize, width: usize) -> usize
     requires { ⌜ i < width ⌝ }
     ensures { λ r. ⌜ r < width ⌝ }
 {

@@ -3,6 +3,7 @@
 mod case;
 mod changes;
 mod files;
+mod kinds;
 mod table;
 
 use case::BOOK;

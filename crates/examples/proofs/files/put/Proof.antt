@@ -4,7 +4,7 @@ use Rattle.examples.proofs.files.put.Statement.{statement}
 use Rattle.examples.proofs.files.put.Tie as tie
 
 abbrev Inv-loop : tie.InvT-loop
-Inv-loop file₀ place at-hand which to from i₀ file i = (to + 850 ≤ 935000) × (from + 850 ≤ 35700) × (i ≤ 850)
+Inv-loop file₀ place at-hand which to from i₀ file i = (to + 850 ≤ 3145000) × (from + 850 ≤ 35700) × (i ≤ 850)
 
 abbrev μ-loop : tie.MeasureT-loop
 μ-loop file₀ place at-hand which to from i₀ file i = 850 - i

@@ -4,7 +4,7 @@ use Rattle.examples.proofs.files.put_payments.Statement.{statement}
 use Rattle.examples.proofs.files.put_payments.Tie as tie
 
 abbrev Inv-loop : tie.InvT-loop
-Inv-loop file₀ place at-hand base shape batch payments at₀ n₀ file at n = (place ≤ at) × (at ≤ 1100) × (n ≤ payments)
+Inv-loop file₀ place at-hand base shape batch payments at₀ n₀ file at n = (place ≤ at) × (at ≤ 3700) × (n ≤ payments)
 
 abbrev μ-loop : tie.MeasureT-loop
 μ-loop file₀ place at-hand base shape batch payments at₀ n₀ file at n = payments - n

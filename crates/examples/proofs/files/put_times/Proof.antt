@@ -5,7 +5,7 @@ use Rattle.examples.proofs.files.put_times.Statement.{statement}
 use Rattle.examples.proofs.files.put_times.Tie as tie
 
 abbrev Inv-loop : tie.InvT-loop
-Inv-loop file₀ place at-hand which times at₀ left₀ file at left = (place ≤ at) × (at ≤ 1100)
+Inv-loop file₀ place at-hand which times at₀ left₀ file at left = (place ≤ at) × (at ≤ 3700)
 
 abbrev μ-loop : tie.MeasureT-loop
 μ-loop file₀ place at-hand which times at₀ left₀ file at left = left
@@ -26,7 +26,7 @@ loop-less : tie.Need-loop-less Inv-loop μ-loop
 loop-less c = search needs
 
 loop-again : tie.Need-loop-again Inv-loop μ-loop
-loop-again c = let h : c .before .before .before .before .loop .at < 1100 = search needs in omega (arith, h)
+loop-again c = let h : c .before .before .before .before .loop .at < 3700 = search needs in omega (arith, h)
 
 returns : tie.Need-returns Inv-loop μ-loop
 returns c = search needs
