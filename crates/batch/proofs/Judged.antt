@@ -138,21 +138,28 @@ pub nowhere-is : (r : Repeat) → r ≡ Nowhere → false ≡ isSomewhere r
 unfolding isSomewhere
 nowhere-is r e = rw e
 
+module _ (n records : ℕ) (rest : List ℕ) where
+  -- in the bytes of the batch, as the code takes them
+  pub repeat-in : (r : Repeat) → r ≡ firstIn n (take (records * 850 - 0) (drop 0 rest)) → r ≡ firstIn n (partOf rest records)
+  repeat-in r e =
+      let m : records * 850 - 0 ≡ records * 850 = omega arith in
+      rw (← m) e
+
+  pub crowd-in : (x : Bool) → x ≡ crowdedIn n (take (records * 850 - 0) (drop 0 rest)) → x ≡ crowdedIn n (partOf rest records)
+  crowd-in x e =
+      let m : records * 850 - 0 ≡ records * 850 = omega arith in
+      rw (← m) e
+
 module _ (told : Told) (n records : ℕ) (rest : List ℕ) (falls : Bool) (accounts : ℕ) (t : Bool) (e : t ≡ isTold told) where
   pub seek-told : t ≡ true → record { told = told; again = false } ≡ sought told (learnt falls accounts n (partOf rest records))
   unfolding sought choose
   seek-told o = rw (← e, o)
 
-  -- the bytes of the batch, as the code takes them
-  abbrev part : List ℕ
-  part = take (records * 850 - 0) (drop 0 rest)
-
-  pub seek-learnt : t ≡ false → (r : Repeat) (x : Bool) (s : Seeking) → r ≡ choose falls (firstIn n part) Nowhere → x ≡ (ltb 1000 accounts and crowdedIn n part)
+  pub seek-learnt : t ≡ false → (r : Repeat) (x : Bool) (s : Seeking) → r ≡ choose falls (firstIn n (partOf rest records)) Nowhere
+      → x ≡ (ltb 1000 accounts and crowdedIn n (partOf rest records))
       → s ≡ record { told = record { repeat = r; crowded = x }; again = isTold (record { repeat = r; crowded = x }) } → s ≡ sought told (learnt falls accounts n (partOf rest records))
   unfolding sought learnt choose
-  seek-learnt o r x s p q z =
-      let m : records * 850 - 0 ≡ records * 850 = omega arith in
-      z ∙ rw (← e, o, p, q, m)
+  seek-learnt o r x s p q z = z ∙ rw (← e, o, p, q)
 
 -- what a walk is told: nothing, or all that is so
 pub data Known (n : ℕ) (rest : List ℕ) (told : Told) : Type 0 where

@@ -74,14 +74,15 @@ fn is_told(told: Told) -> bool
 }
 
 // Whether the DT of the batch have too many kinds. At most 1,000 DT have no more kinds, and are not counted.
-fn has_crowd(part: &[u8], first: usize, accounts: usize) -> bool
-    requires { ⌜ (length (now part) ≤ 65535 * 850) × (first ≤ 65536) ⌝ }
-    ensures { λ r. ⌜ r ≡ (ltb 1000 accounts and crowdedIn first (now (part .entry))) ⌝ }
+fn has_crowd(rest: &[u8], first: usize, records: usize, accounts: usize) -> bool
+    requires { ⌜ (records * 850 ≤ length (now rest)) × (length (now rest) ≤ 65535 * 850) × (first ≤ 65536) ⌝ }
+    ensures { λ r. ⌜ r ≡ (ltb 1000 accounts and crowdedIn first (take (records * 850) (now (rest .entry)))) ⌝ }
 {
     if accounts <= kinds::MOST {
         return false;
     }
-    kinds::are_crowded(part, first)
+    let stop = records * 850;
+    kinds::are_crowded(&rest[0..stop], first)
 }
 
 // The next walk is told of this, if it is something.
@@ -109,13 +110,13 @@ fn seek(
     if is_told(told) {
         return Seeking { told, again: false };
     }
-    let end = records * 850;
     if falls {
+        let end = records * 850;
         let repeat = repeats::first_repeat(&rest[0..end], first);
-        let crowded = has_crowd(&rest[0..end], first, accounts);
+        let crowded = has_crowd(rest, first, records, accounts);
         return tell(repeat, crowded);
     }
-    let crowded = has_crowd(&rest[0..end], first, accounts);
+    let crowded = has_crowd(rest, first, records, accounts);
     tell(Repeat::Nowhere, crowded)
 }
 

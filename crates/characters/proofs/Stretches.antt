@@ -6,8 +6,6 @@ use mathlib.Core.List.{List, [], _∷_, _++_}
 use Prim.Native.Nat.{ℕ, _+_, _-_}
 use lib.Dec.{eqb, leb}
 use borrow.Author.Tests.{eqb-true}
-use lib.ListN.{drop}
-use lib.Seq.{drop-drop, take-add}
 use Rattle.record.specs.declared.Field.{Field}
 use Rattle.record.specs.declared.codes.Code.{Code}
 use Rattle.record.specs.Choice.{_and_, _or_, choose}
@@ -15,6 +13,7 @@ use Rattle.record.specs.Value.{held}
 use Rattle.record.specs.Tests.{every, valid}
 use Rattle.record.specs.Codes.{codeOf}
 use Rattle.record.specs.Layout.{Row, layout, Record as Kind}
+use Rattle.record.proofs.Held.{held-beside}
 use Rattle.nesting.specs.Division.{Record}
 use Rattle.characters.specs.Characters.{rowsOf, cleanIn, clean}
 
@@ -44,16 +43,10 @@ unfolding every _and_
 every-append q [] ys = refl
 every-append q (x ∷ xs) ys = rw (every-append q xs ys) (sym (and-assoc (q x) (every q xs) (every q ys)))
 
--- a stretch holds what its two fields do, side by side
-held-glued : (r : Record) (f g : Field) → f .start - 1 + f .width ≡ g .start - 1
-    → held r (record { start = f .start; width = f .width + g .width }) ≡ held r f ++ held r g
-unfolding held
-held-glued r f g e = take-add (f .width) (g .width) (drop (f .start - 1) r) ∙ rw (drop-drop (f .width) (f .start - 1) r, e)
-
 valid-glued : (r : Record) (f g : Field) → f .start - 1 + f .width ≡ g .start - 1
     → valid (held r (record { start = f .start; width = f .width + g .width })) ≡ (valid (held r f) and valid (held r g))
 unfolding valid
-valid-glued r f g e = rw (held-glued r f g e) (every-append (λ (x : ℕ). leb 0x40 x) (held r f) (held r g))
+valid-glued r f g e = rw (held-beside r f g e) (every-append (λ (x : ℕ). leb 0x40 x) (held r f) (held r g))
 
 all-glued : (r : Record) (f : Field) (gs : List Field) → allValid r (glued f gs) ≡ (valid (held r f) and allValid r gs)
 unfolding glued allValid choose

@@ -43,14 +43,14 @@ module _ (first : ℕ) (bytes table : List ℕ) (count place : ℕ) where
     unfolding tableCounted choose
     table-own after a = rw o a
 
-    module _ (e : Entry) (q : e ≡ entryOf first stretch bytes table count place) where
-      pub count-seen : e .known ≡ true → count ≡ counted first bytes table count place
-      unfolding counted entryOf isNew _and_ choose
-      count-seen k = sym (rw (o, sym (ap (λ (x : Entry). x .known) q) ∙ k))
-
-      pub count-more : e .known ≡ false → count < length table → count + 1 ≡ counted first bytes table count place
-      unfolding counted entryOf isNew _and_ choose
-      count-more k l = sym (rw (o, sym (ap (λ (x : Entry). x .known) q) ∙ k, lt-ltb count (length table) l))
+    pub count-own : (e : Entry) (r : ℕ) → e ≡ entryOf first stretch bytes table count place → r ≡ choose (e .known) count (count + 1) → count < length table
+        → r ≡ counted first bytes table count place
+    unfolding counted entryOf isNew _and_ choose
+    count-own e r q z l = go (e .known) refl
+      where
+        go : (b : Bool) → e .known ≡ b → r ≡ counted first bytes table count place
+        go true k = z ∙ rw (k, o, sym (ap (λ (x : Entry). x .known) q) ∙ k)
+        go false k = z ∙ rw (k, o, sym (ap (λ (x : Entry). x .known) q) ∙ k, lt-ltb count (length table) l)
 
 -- the table holds the kinds so far, and what is left of the records decides
 pub record Counted (first : ℕ) (bytes : List ℕ) (records place : ℕ) (table : List ℕ) (count : ℕ) : Type 0 where

@@ -3,26 +3,19 @@
 use mathlib.Core.Path.{_≡_, refl, sym, ap, _∙_}
 use mathlib.Core.List.{List, [], _∷_, _++_, append-nil}
 use Prim.Native.Nat.{ℕ, _+_, _-_}
-use native.Mathlib.Omega.{arith}
-use lib.ListN.{take, drop}
-use lib.Seq.{drop-drop, take-add}
 use Rattle.record.specs.declared.Field.{Field}
 use Rattle.record.specs.Choice.{choose}
 use Rattle.record.specs.Fields.{span}
 use Rattle.record.specs.Value.{held}
 use Rattle.record.specs.Layout.{layout, positionIn}
+use Rattle.record.proofs.Held.{held-beside}
 use Rattle.nesting.specs.Division.{Record}
 use Rattle.kinds.specs.Kinds.{kindFields, heldBy, kind}
 use Rattle.kinds.specs.Counting.{stretch}
 
--- two fields side by side hold what the stretch of both holds
-beside : (t : Record) (f g : Field) → f .start - 1 + f .width ≡ g .start - 1 → held t f ++ held t g ≡ held t (span (f .start) (f .width + g .width))
-unfolding held
-beside t f g e = sym (take-add (f .width) (g .width) (drop (f .start - 1) t) ∙ rw (drop-drop (f .width) (f .start - 1) t, e))
-
 -- a field, and those behind it as far as they are a stretch
 onto : (t : Record) (f g : Field) (xs : List ℕ) → xs ≡ held t g → f .start - 1 + f .width ≡ g .start - 1 → held t f ++ xs ≡ held t (span (f .start) (f .width + g .width))
-onto t f g xs h e = ap (λ (ys : List ℕ). held t f ++ ys) h ∙ beside t f g e
+onto t f g xs h e = ap (λ (ys : List ℕ). held t f ++ ys) h ∙ sym (held-beside t f g e)
 
 pub kind-held : (t : Record) → kind t ≡ held t stretch
 unfolding kind kindFields heldBy layout positionIn choose

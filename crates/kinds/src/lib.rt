@@ -5,10 +5,11 @@ use record::codes::Code;
 use record::codes::code_of;
 use tables::enter;
 ghost use mathlib.Core.Path.{_≡_};
-ghost use Prim.Native.Nat.{_*_, _/_, _<_, _≤_};
+ghost use Prim.Native.Nat.{_+_, _*_, _/_, _<_, _≤_};
 ghost use lib.ListN.{length};
-ghost use Rattle.nesting.specs.Records.{cut, recordAt};
+ghost use Rattle.record.specs.Choice.{choose};
 ghost use Rattle.record.specs.Codes.{codeOf};
+ghost use Rattle.nesting.specs.Records.{cut, recordAt};
 ghost use Rattle.tables.specs.Tables.{Stands, Tabled};
 ghost use Rattle.kinds.specs.Kinds.{isAccount, kinds, crowded};
 ghost use Rattle.kinds.specs.Counting.{stretch, counted, tableCounted};
@@ -44,6 +45,18 @@ fn has_kind(file: &[u8], first: usize, place: usize) -> bool
     is_account(code)
 }
 
+// The kinds with one more, unless it is known.
+fn with_kind(known: bool, before: usize) -> usize
+    requires { ⌜ before < 65536 ⌝ }
+    ensures { λ r. ⌜ r ≡ choose known before (before + 1) ⌝ }
+{
+    let more = before + 1;
+    if known {
+        return before;
+    }
+    more
+}
+
 // The kinds so far, with the record at the place: a DT of a kind that the table lacks counts, and is entered.
 fn count(file: &[u8], first: usize, place: usize, table: &mut [u16], kinds: usize) -> usize
     requires { ⌜ Tabled first stretch (now file) (now table) kinds × Stands first place (now file) × (place < 65536) × (kinds < length (now table)) ⌝ }
@@ -53,12 +66,8 @@ fn count(file: &[u8], first: usize, place: usize, table: &mut [u16], kinds: usiz
     if !has_kind(file, first, place) {
         return kinds;
     }
-    let more = kinds + 1;
     let entry = enter(file, first, place, KIND, table, kinds);
-    if entry.known {
-        return kinds;
-    }
-    more
+    with_kind(entry.known, kinds)
 }
 
 // The DT of the records have too many kinds. The pass ends at the first kind too many.

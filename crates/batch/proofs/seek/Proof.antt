@@ -1,5 +1,5 @@
 use Rattle.record.proofs.Chain.{choose-yes, choose-no}
-use Rattle.batch.proofs.Judged.{seek-told, seek-learnt}
+use Rattle.batch.proofs.Judged.{repeat-in, seek-told, seek-learnt}
 use borrow.Author.Needs.{needs}
 use Rattle.batch.proofs.seek.Statement.{statement}
 use Rattle.batch.proofs.seek.Tie as tie
@@ -25,15 +25,6 @@ part-first-repeat-end c = search needs
 first-repeat-requires : tie.Need-first-repeat-requires
 first-repeat-requires c κs = search needs
 
-sub-has-crowd : tie.Need-sub-has-crowd
-sub-has-crowd c = search needs
-
-part-has-crowd-start : tie.Need-part-has-crowd-start
-part-has-crowd-start c = search needs
-
-part-has-crowd-end : tie.Need-part-has-crowd-end
-part-has-crowd-end c = search needs
-
 has-crowd-requires : tie.Need-has-crowd-requires
 has-crowd-requires c κs = search needs
 
@@ -41,16 +32,7 @@ tell-requires : tie.Need-tell-requires
 tell-requires c κs = search needs
 
 returns-2 : tie.Need-returns-2
-returns-2 c = search (needs, seek-learnt, choose-yes)
-
-sub-has-crowd-2 : tie.Need-sub-has-crowd-2
-sub-has-crowd-2 c = search needs
-
-part-has-crowd-start-2 : tie.Need-part-has-crowd-start-2
-part-has-crowd-start-2 c = search needs
-
-part-has-crowd-end-2 : tie.Need-part-has-crowd-end-2
-part-has-crowd-end-2 c = search needs
+returns-2 c = search (needs, seek-learnt, choose-yes, repeat-in)
 
 has-crowd-requires-2 : tie.Need-has-crowd-requires-2
 has-crowd-requires-2 c κs = search needs
@@ -72,15 +54,9 @@ seek-spec =
     part-first-repeat-start
     part-first-repeat-end
     first-repeat-requires
-    sub-has-crowd
-    part-has-crowd-start
-    part-has-crowd-end
     has-crowd-requires
     tell-requires
     returns-2
-    sub-has-crowd-2
-    part-has-crowd-start-2
-    part-has-crowd-end-2
     has-crowd-requires-2
     tell-requires-2
     returns-3)

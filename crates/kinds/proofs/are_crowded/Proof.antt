@@ -20,7 +20,10 @@ count-requires : tie.Need-count-requires Inv-loop μ-loop
 count-requires c κs = search (needs, counted-tabled, counted-room)
 
 returns : tie.Need-returns Inv-loop μ-loop
-returns c = counted-crowded _ _ _ _ _ _ (counted-next _ _ _ _ _ _ (c .before .before .before .before .before .loop .inv .1) (c .before .before .before .before .before .loop .inv .0) (c .before .before .before .before .loop-test .taken) (search needs, search needs) _ _ (c .before .before .count .ensures .0) (c .before .before .count .ensures .1)) (c .if1 .taken)
+returns c =
+    let i = c .before .before .before .before .before .loop .inv in
+    let r = c .before .before .count .ensures in
+    counted-crowded _ _ _ _ _ _ (counted-next _ _ _ _ _ _ (i .1) (i .0) (c .before .before .before .before .loop-test .taken) (search needs, search needs) _ _ (r .0) (r .1)) (c .if1 .taken)
 
 add-place : tie.Need-add-place Inv-loop μ-loop
 add-place c = search needs
@@ -29,7 +32,10 @@ loop-less : tie.Need-loop-less Inv-loop μ-loop
 loop-less c = search needs
 
 loop-again : tie.Need-loop-again Inv-loop μ-loop
-loop-again c = (search needs, counted-next _ _ _ _ _ _ (c .before .before .before .before .before .loop .inv .1) (c .before .before .before .before .before .loop .inv .0) (c .before .before .before .before .loop-test .taken) (search needs, search needs) _ _ (c .before .before .count .ensures .0) (c .before .before .count .ensures .1))
+loop-again c =
+    let i = c .before .before .before .before .before .loop .inv in
+    let r = c .before .before .count .ensures in
+    (search needs, counted-next _ _ _ _ _ _ (i .1) (i .0) (c .before .before .before .before .loop-test .taken) (search needs, search needs) _ _ (r .0) (r .1))
 
 returns-2 : tie.Need-returns-2 Inv-loop μ-loop
 returns-2 c = search (needs, counted-all)
