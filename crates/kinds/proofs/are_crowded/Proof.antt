@@ -23,7 +23,7 @@ returns : tie.Need-returns Inv-loop μ-loop
 returns c =
     let i = c .before .before .before .before .before .loop .inv in
     let r = c .before .before .count .ensures in
-    counted-crowded _ _ _ _ _ _ (counted-next _ _ _ _ _ _ (i .1) (i .0) (c .before .before .before .before .loop-test .taken) (search needs, search needs) _ _ (r .0) (r .1)) (c .if1 .taken)
+    counted-crowded _ _ _ _ _ _ (counted-next _ _ _ _ _ _ (i .1) (i .0) (c .before .before .before .before .loop-test .taken) (search needs, search needs) _ _ (r .0) (r .1)) (search needs)
 
 add-place : tie.Need-add-place Inv-loop μ-loop
 add-place c = search needs
