@@ -15,7 +15,8 @@
  *             if (srf_report_number(report, row, SRF_BATCH_REASON) != SRF_SOUND)
  *                 reject(srf_report_number(report, row, SRF_BATCH_FIRST));
  *
- * "01" below is the bureau's paper with the rules, "004" the published format with its fields and their numbers.
+ * "01" below is the bureau's paper with the rules, as the requests in docs/changes/ have it, "004" the published format with its fields and
+ * their numbers.
  */
 #ifndef SRF_JUDGE_H
 #define SRF_JUDGE_H
@@ -42,14 +43,15 @@ extern "C" {
  * Threads: nothing is kept between calls and there is no global state. Any number of threads may call at once, also with one file and
  * one book, if their reports do not overlap.
  *
- * Space: no heap, no system calls, at most 11 KB of stack (under 3 KB where numbers rise). Of the C library it needs memcpy and memset. In threads with little stack
+ * Space: no heap, no system calls, at most 11 KB of stack (under 3 KB where numbers rise and no batch has over 1,000 DT). Of the C library it needs memcpy and memset. In threads with little stack
  * have them bound when the program starts (-Wl,-z,now): bound at first use, the dynamic linker takes some 3 KB of stack more.
  *
  * Time: two passes over the file. Schedule numbers that rise in file order, and Payment IDs that climb in their batch, cost one comparison
  * each. Others cost more, and whatever they are no more than this: 52 comparisons a batch for the file's schedule numbers (13 in each of
  * at most 4 blocks of 4,096); 8 hashes and 120 comparisons a payment for a batch's Payment IDs (16 in walks, 13 in each of at most 8
  * blocks); to enter a number into a block, 4,095 moves of two bytes. Each pass, walk and block reads the code of a record at most once. A
- * batch in which a Payment ID repeats is walked twice.
+ * batch of more than 1,000 DT takes one pass more: 10 comparisons a DT, and 1,000 moves of two bytes for each kind of TAS/BETC up to the
+ * 1,001st. A batch in which a Payment ID repeats, or with too many kinds, is walked twice.
  */
 uint64_t srf_judge(const uint8_t *file, size_t file_size, const uint8_t *book, size_t book_size, uint8_t *report, size_t report_size);
 
@@ -89,7 +91,7 @@ enum srf_batch_reason {
     SRF_ACCOUNT_SUM = 9,        /* TAS/BETC sum differs; the detail's record, field 87 */
     SRF_PROCUREMENT_SUM = 10,   /* procurement sum differs; the detail's record, field 96 */
     SRF_ACCOUNT_MISSING = 11,   /* CARS Reporter, payment without DT; the detail's record, field 76 */
-    SRF_TOO_MANY_ACCOUNTS = 12, /* more than 1,000 TAS/BETC in the batch; the header's record, field 76 */
+    SRF_TOO_MANY_ACCOUNTS = 12, /* more than 1,000 different TAS/BETC (positions 23 to 54 of DT) in the batch; the header's record, field 76 */
     SRF_COUNT_DIFFERS = 13,     /* count differs */
     SRF_AMOUNT_DIFFERS = 14     /* amount differs */
 };

@@ -44,7 +44,7 @@ static const char *const BATCH_REASONS[] = {
     [SRF_ACCOUNT_SUM] = "TAS/BETC sum differs",
     [SRF_PROCUREMENT_SUM] = "procurement sum differs",
     [SRF_ACCOUNT_MISSING] = "CARS Reporter, payment without DT",
-    [SRF_TOO_MANY_ACCOUNTS] = "more than 1,000 TAS/BETC in the batch",
+    [SRF_TOO_MANY_ACCOUNTS] = "more than 1,000 different TAS/BETC in the batch",
     [SRF_COUNT_DIFFERS] = "count differs",
     [SRF_AMOUNT_DIFFERS] = "amount differs",
 };

@@ -6,7 +6,7 @@ import sys
 here = pathlib.Path(__file__).resolve().parent
 root = here.parents[2]
 sys.path.insert(0, str(root / "reference"))
-from srf import PLACES, amount, ebcdic, held  # noqa: E402
+from srf import PLACES, amount, ebcdic, held, record  # noqa: E402
 
 shipped = (root / "crates" / "srf_judge" / "stdin").read_bytes()
 FH, BN, DN, DX, BT, FT = [shipped[i:i + 850] for i in range(0, len(shipped), 850)]
@@ -54,12 +54,25 @@ def rejected():
     return whole(FH, BN, DN, DX, BT, other, DN, DX, BT, payments=2, cents=2 * CENTS)
 
 
+def kinds():
+    """1,001 kinds of TAS/BETC, a DT of each, in payments whose IDs climb: only then the judge counts kinds."""
+    payments = []
+    for number in range(1001):
+        ident = "PAYMENT-%04d" % (number // 91)
+        if number % 91 == 0:
+            payments += [put(DN, f23=ident), put(DX, f65=ident)]
+        payments.append(record("DT", f77=ident, f84="%04d" % number, f87=amount(CENTS if number % 91 == 0 else 0)))
+    cents = 11 * CENTS
+    return whole(FH, put(BN, f9=amount(cents)), *payments, put(BT, f99="%08d" % 11, f100=amount(cents)), payments=11, cents=cents)
+
+
 SAMPLES = {
     "sound": shipped,
     "large": large(),
     "shuffled": shuffled(),
     "checks": checks(),
     "rejected": rejected(),
+    "kinds": kinds(),
     "refused": shipped.replace(DX, put(DX, "BT")),
     "short": shipped[:4 * 850],
     "cut": shipped[:-1],
