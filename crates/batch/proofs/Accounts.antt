@@ -1,7 +1,7 @@
 -- The kinds of a batch: those of its records are those of its payments, and they are at most its DT.
 -- Assumes nothing.
 use mathlib.Core.Path.{_≡_, refl, sym, ap, _∙_}
-use mathlib.Core.Bool.{Bool, true, false}
+use mathlib.Core.Bool.{false}
 use mathlib.Core.List.{List, [], _∷_, _++_, map, append-nil, append-assoc}
 use Prim.Native.Nat.{ℕ, _+_, _≤_}
 use native.Mathlib.Omega.{arith}
@@ -10,7 +10,7 @@ use Rattle.record.specs.declared.codes.Letter.{Letter}
 use Rattle.record.specs.declared.codes.Code.{Code}
 use Rattle.record.specs.declared.codes.Code.the-variants as code
 use Rattle.record.specs.Choice.{choose}
-use Rattle.record.specs.Codes.{letterByte, codeBytes, codeOf}
+use Rattle.record.specs.Codes.{letterByte, codeBytes}
 use Rattle.money.specs.Money.{total}
 use Rattle.nesting.specs.Division.{Record, All, Own, Coded, DT, Payment, Batch, LegalPayment, LegalBatch, batchCode, paymentsOnto, batchLines}
 use Rattle.nesting.proofs.Coding.{of-bytes, lettered}

@@ -3,18 +3,17 @@
 use mathlib.Core.Path.{_≡_, refl, sym, ap, _∙_}
 use mathlib.Core.Bool.{Bool, true, false}
 use mathlib.Core.List.{List, [], _∷_, _++_}
-use Prim.Native.Nat.{ℕ, suc, _+_, _-_, _*_, _/_, _≤_, _<_}
+use Prim.Native.Nat.{ℕ, suc, _+_, _-_, _*_, _≤_, _<_}
 use native.Mathlib.Omega.{arith}
 use borrow.Author.Tests.{lt-ltb}
 use lib.ListN.{length}
 use Rattle.record.specs.declared.codes.Code.{Code}
 use Rattle.record.specs.Choice.{_and_, choose}
-use Rattle.record.specs.Value.{held}
 use Rattle.record.specs.Codes.{codeOf}
 use Rattle.nesting.specs.Records.{cut, recordAt}
 use Rattle.nesting.proofs.Cuts.{recordFrom, from-place, onward, cut-onward, cut-start}
 use Rattle.tables.specs.declared.Entry.{Entry}
-use Rattle.tables.specs.Tables.{Stands, Tabled, member, isKnown, isNew, entryOf, tableAfter}
+use Rattle.tables.specs.Tables.{Stands, Tabled, member, isNew, entryOf, tableAfter}
 use Rattle.tables.proofs.Tables.{Holds, member-again, holds-none, known-is, count-known, holds-known, count-new, holds-new, after-length}
 use Rattle.kinds.specs.Kinds.{kind, isAccount, kinds, different, crowded}
 use Rattle.kinds.specs.Counting.{stretch, counted, tableCounted}

@@ -1,6 +1,6 @@
 -- How many different ones there are among kinds: at most as many as there are kinds, and one where all are alike.
 -- Assumes nothing.
-use mathlib.Core.Path.{_≡_, refl, sym, ap, _∙_}
+use mathlib.Core.Path.{_≡_, refl, sym, _∙_}
 use mathlib.Core.Bool.{Bool, true, false}
 use mathlib.Core.List.{List, [], _∷_, _++_}
 use Prim.Native.Nat.{ℕ, zero, suc, _+_, _≤_}
@@ -11,7 +11,7 @@ use Rattle.record.specs.Choice.{_or_, choose}
 use Rattle.record.specs.Tests.{alike}
 use Rattle.record.proofs.Same.{alike-self}
 use Rattle.tables.specs.Tables.{member}
-use Rattle.tables.proofs.Tables.{member-snoc, member-again}
+use Rattle.tables.proofs.Tables.{member-again}
 use Rattle.kinds.specs.Kinds.{different, crowded}
 
 -- a kind that is there already, and one that is not

@@ -1,32 +1,41 @@
 -- A kind's fields stand side by side: the kind is what positions 23 to 54 hold.
 -- Assumes nothing.
 use mathlib.Core.Path.{_≡_, refl, sym, ap, _∙_}
-use mathlib.Core.List.{List, [], _∷_, _++_, append-nil}
-use Prim.Native.Nat.{ℕ, _+_, _-_}
+use mathlib.Core.Bool.{Bool, true}
+use mathlib.Core.List.{List, [], _∷_, _++_}
+use Prim.Native.Nat.{ℕ, _+_, _≤_}
+use native.Mathlib.Omega.{arith}
+use borrow.Author.Tests.{eqb-true}
+use lib.Dec.{eqb}
 use Rattle.record.specs.declared.Field.{Field}
-use Rattle.record.specs.Choice.{choose}
+use Rattle.record.specs.Choice.{_and_, choose}
 use Rattle.record.specs.Fields.{span}
 use Rattle.record.specs.Value.{held}
 use Rattle.record.specs.Layout.{layout, positionIn}
+use Rattle.record.proofs.Chain.{and-left, and-right}
 use Rattle.record.proofs.Held.{held-beside}
 use Rattle.nesting.specs.Division.{Record}
 use Rattle.kinds.specs.Kinds.{kindFields, heldBy, kind}
 use Rattle.kinds.specs.Counting.{stretch}
 
--- a field, and those behind it as far as they are a stretch
-onto : (t : Record) (f g : Field) (xs : List ℕ) → xs ≡ held t g → f .start - 1 + f .width ≡ g .start - 1 → held t f ++ xs ≡ held t (span (f .start) (f .width + g .width))
-onto t f g xs h e = ap (λ (ys : List ℕ). held t f ++ ys) h ∙ sym (held-beside t f g e)
+-- the fields stand side by side, the first at a position
+unfoldable beside : ℕ → List Field → Bool
+beside at [] = true
+beside at (f ∷ fs) = eqb (f .start) at and beside (at + f .width) fs
+
+unfoldable widths : List Field → ℕ
+widths [] = 0
+widths (f ∷ fs) = f .width + widths fs
+
+-- then they hold what their stretch does
+stretched : (t : Record) (at : ℕ) (fs : List Field) → 1 ≤ at → beside at fs ≡ true → heldBy t fs ≡ held t (span at (widths fs))
+unfolding heldBy beside widths held
+stretched t at [] h e = refl
+stretched t at (f ∷ fs) h e =
+    let k : f .start ≡ at = eqb-true (f .start) at (and-left _ _ e) in
+    let m = stretched t (at + f .width) fs (omega arith) (and-right (eqb (f .start) at) _ e) in
+    ap (λ (xs : List ℕ). held t f ++ xs) m ∙ sym (held-beside t f (span (at + f .width) (widths fs)) (omega arith)) ∙ rw k
 
 pub kind-held : (t : Record) → kind t ≡ held t stretch
-unfolding kind kindFields heldBy layout positionIn choose
-kind-held t =
-    onto t (span 23 2) (span 25 30) _
-    (onto t (span 25 3) (span 28 27) _
-    (onto t (span 28 3) (span 31 24) _
-    (onto t (span 31 4) (span 35 20) _
-    (onto t (span 35 4) (span 39 16) _
-    (onto t (span 39 1) (span 40 15) _
-    (onto t (span 40 4) (span 44 11) _
-    (onto t (span 44 3) (span 47 8) _
-    (append-nil (held t (span 47 8)))
-    refl) refl) refl) refl) refl) refl) refl) refl
+unfolding kind kindFields layout positionIn choose beside widths _and_
+kind-held t = stretched t 23 kindFields (omega arith) refl

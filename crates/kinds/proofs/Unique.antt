@@ -1,6 +1,6 @@
 -- The public function's contract allows one result for the same arguments: stated over the contract itself.
 -- Assumes nothing.
-use mathlib.Core.Path.{_≡_, sym, _∙_}
+use mathlib.Core.Path.{sym, _∙_}
 use Rattle.record.proofs.Unique.{OneResult}
 use Rattle.kinds.proofs.are_crowded.Reads as are-crowded
 

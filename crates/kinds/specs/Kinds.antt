@@ -9,13 +9,13 @@ use Rattle.record.specs.declared.codes.Code.the-variants as code
 use Rattle.record.specs.Choice.{choose}
 use Rattle.record.specs.Value.{held}
 use Rattle.record.specs.Codes.{codeOf}
-use Rattle.record.specs.Layout.{layout, positionIn, Record as Kind}
+use Rattle.record.specs.Layout.{layout, positionIn, Record as Table}
 use Rattle.nesting.specs.Division.{Record}
 use Rattle.tables.specs.Tables.{member}
 
 -- the fields of a DT that make its kind: 004's 78 to 86, positions 23 to 54 (02 W1)
 unfoldable pub kindFields : List Field
-kindFields = map (positionIn (layout Kind.Account)) (78 ∷ 79 ∷ 80 ∷ 81 ∷ 82 ∷ 83 ∷ 84 ∷ 85 ∷ 86 ∷ [])
+kindFields = map (positionIn (layout Table.Account)) (78 ∷ 79 ∷ 80 ∷ 81 ∷ 82 ∷ 83 ∷ 84 ∷ 85 ∷ 86 ∷ [])
 
 -- what fields of a record hold, side by side
 unfoldable pub heldBy : Record → List Field → List ℕ
