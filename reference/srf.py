@@ -1,4 +1,4 @@
-"""A judge of SRF files in plain Python, written from documents 01 and 004: what the programs are expected to print.
+"""A judge of SRF files in plain Python, written from documents 01, 02 and 004: what the programs are expected to print.
 
 It goes over whole lists of records and keeps no state from one to the next. Sound records to make files of stand at its end, and what writes the cases of a program.
 """
@@ -344,6 +344,12 @@ def batch_row(batch, book, earlier):
 
 # ---- the judge of a file (01 File answers)
 
+def translated(file):
+    """The file in EBCDIC (02 W2). One that begins with 46 48 is ASCII throughout: its printable bytes become those of code page 037,
+    all others 3F, the SUB of that code page. Any other is taken as it is."""
+    return re.sub(rb"[^ -~]", b"\x1A", file).decode("ascii").encode("cp037") if file[:2] == b"FH" else file
+
+
 def is_low(rec):
     fillers = FILLERS[code_of(rec)]
     return any(not any(start <= i <= end for start, end in fillers) for i, x in enumerate(rec, 1) if x < 0x40)
@@ -361,6 +367,7 @@ def reasons(file, book, room):
     lists = parsed(book)
     if lists is None:
         yield 4, 0
+    file = translated(file)
     records = [file[i:i + 850] for i in range(0, len(file), 850)]
     fault = nesting_fault(records)
     if fault:
@@ -391,6 +398,7 @@ def judged(file, book, room):
     reason, record = next(reasons(file, book, room), (0, 0))
     if reason:
         return reason * 100000 + record, []
+    file = translated(file)
     numbered = [(i // 850 + 1, file[i:i + 850]) for i in range(0, len(file), 850)]
     batches = parts(numbered[:-1], lambda one: is_header(one[1]))
     details = [r for _, r in numbered if is_detail(r)]

@@ -1,7 +1,8 @@
-//! A judge of SRF files, read from document 01 (the rules), 02 (request W1), 004 (layouts and values) and the readings. It stands in
+//! A judge of SRF files, read from document 01 (the rules), 02 (requests W1 and W2), 004 (layouts and values) and the readings. It stands in
 //! document 01's order: bytes, nesting, code book, file answers, report, batch reasons. "01 X" cites a section of document 01, "02 Wn" a
 //! request, "004 n" a field.
 
+use crate::ascii;
 use crate::layout::{self, place, Kind, RECORD};
 use std::collections::HashSet;
 use std::ops::Range;
@@ -9,8 +10,9 @@ use std::ops::Range;
 type Raw = [u8; RECORD];
 
 /// Returns 0 and writes the rows, or returns reason x 100,000 + record and leaves the report untouched (01 File answers, Report).
+/// 02 W2: the answer is that of the translated file, which is as long as the file; the book stays as it is.
 pub fn judge(file: &[u8], book: &[u8], report: &mut [u8]) -> u64 {
-    match file_answer(file, book, report.len()) {
+    match file_answer(&ascii::translated(file), book, report.len()) {
         Ok(accepted) => {
             accepted.write(report);
             0
@@ -1123,6 +1125,85 @@ mod tests {
                 assert_eq!(answer(&records), if refused { 700_001 + index as u64 } else { 0 }, "{index} {at}");
             }
         }
+    }
+
+    /// 02 W2: the file by the inverse table; each of its bytes has a character.
+    fn in_ascii(records: &[Raw]) -> Vec<Raw> {
+        let ascii = |record: &Raw| record.map(|byte| ascii::to_ascii(byte).unwrap());
+        records.iter().map(ascii).collect()
+    }
+
+    #[test]
+    fn ascii_files() {
+        for letter in "NCWIA".chars() {
+            let records = smallest(letter);
+            assert_eq!(rows(&in_ascii(&records)), rows(&records), "{letter}");
+        }
+        let mut records = smallest('N');
+        put(&mut records[1], 9, "");
+        assert_eq!(rows(&in_ascii(&records))[1][5..], [1, 2, 9]);
+        put(&mut records[3], 1, "BT");
+        assert_eq!(answer(&in_ascii(&records)), 500_004);
+
+        let book_in_ascii: Vec<u8> = book().iter().map(|&byte| ascii::to_ascii(byte).unwrap_or(byte)).collect();
+        let judge_bytes = |bytes: &[u8], book: &[u8], room| judge(bytes, book, &mut vec![0; room]);
+        let sound = in_ascii(&smallest('N'));
+        let bytes = sound.as_flattened();
+        assert_eq!(judge_bytes(bytes, &book_in_ascii, ROOM), 800_001);
+        assert_eq!(judge_bytes(&bytes[..bytes.len() - 1], &book(), ROOM), 200_000);
+        assert_eq!(judge_bytes(bytes, &book()[1..], ROOM), 400_000);
+        assert_eq!(judge_bytes(bytes, &book(), 127), 600_000);
+        assert_eq!(judge_bytes(&[], &book(), ROOM), 100_000);
+        assert_eq!([&b"F"[..], b"FH"].map(|bytes| judge_bytes(bytes, &book(), ROOM)), [200_000; 2]);
+    }
+
+    /// 02 W2: the first two bytes decide for the whole file.
+    #[test]
+    fn ascii_by_the_first_two_bytes() {
+        let sound = smallest('N');
+        let begun = |records: &[Raw], start: [u8; 2]| {
+            let mut records = records.to_vec();
+            records[0][..2].copy_from_slice(&start);
+            answer(&records)
+        };
+        assert_eq!(begun(&sound, [0x46, 0x48]), 500_002);
+        assert_eq!(begun(&in_ascii(&sound), [0xC6, 0xC8]), 500_002);
+        for start in [[0x66, 0x68], [0x48, 0x46], [0x46, 0xC8], [0xC6, 0x48]] {
+            assert_eq!(begun(&sound, start), 500_001);
+            assert_eq!(begun(&in_ascii(&sound), start), 500_001);
+        }
+    }
+
+    /// 02 W2: unprintable bytes are low ones of the translated file, and fillers do not matter.
+    #[test]
+    fn ascii_low_bytes() {
+        for (index, letter) in (0..6).flat_map(|index| "NC".chars().map(move |letter| (index, letter))) {
+            let (kind, sound) = (kind(&smallest(letter)[index]).unwrap(), in_ascii(&smallest(letter)));
+            for (at, byte) in (22..RECORD).zip([0x00, 0x09, 0x1F, 0x7F, 0x80, 0xC1, 0xFF].into_iter().cycle()) {
+                let mut records = sound.clone();
+                records[index][at] = byte;
+                let looked_at = stretches(kind).into_iter().any(|stretch| stretch.contains(&at));
+                assert_eq!(answer(&records), if looked_at { 700_001 + index as u64 } else { 0 }, "{index} {at}");
+            }
+        }
+    }
+
+    /// 02 W2: IDs that differ in unprintable bytes alone are equal once translated.
+    #[test]
+    fn ascii_payment_ids() {
+        let with = |of_detail, of_party, room| {
+            let mut records = in_ascii(&smallest('N'));
+            records[2][21] = of_detail;
+            records[3][21] = of_party;
+            judge(records.as_flattened(), &book(), &mut vec![0; room])
+        };
+        assert_eq!(with(b'?', b'?', 128), 0);
+        assert_eq!(with(0x09, 0xFF, 128), 700_003);
+        assert_eq!(with(0x09, 0xFF, 127), 600_000);
+        assert_eq!(with(0x7F, 0x80, 128), 700_003);
+        assert_eq!(with(0x09, b'?', 128), 500_004);
+        assert_eq!(with(b'o', 0x3F, 128), 500_004);
+        assert_eq!(with(b'a', b'A', 128), 500_004);
     }
 
     /// 01 File answers: each, and the order.

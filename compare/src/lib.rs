@@ -1,4 +1,5 @@
 //! Two judges of SRF files, one proved and one independent, and the inputs to compare them with.
+pub mod ascii;
 pub mod judge;
 pub mod layout;
 pub mod make;

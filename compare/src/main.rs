@@ -8,7 +8,8 @@ use std::sync::atomic::{AtomicU64, Ordering::Relaxed};
 use std::time::Instant;
 use std::{env, fs, io, thread};
 
-use compare::layout::RECORD;
+use compare::ascii::{is_ascii, to_ascii, to_ebcdic, translated, ASCII_FH};
+use compare::layout::{of, RECORD};
 use compare::make::record::code_of;
 use compare::make::{input_seed, Input, Piece, Recipe};
 use compare::{judge, proved};
@@ -69,28 +70,91 @@ const ALLOWED: &[(u64, u64, &str)] = &[
     (1, 100, "NCWIA"), (2, 100, "NCWIA"), (14, 100, "NCWIA"),
 ];
 
-/// How often each file answer, and each reason with each field in each kind of batch, was given.
+/// How often each file answer, and each reason with each field in each kind of batch, was given; and how often to files in ASCII.
 #[derive(Default)]
 struct Counts(BTreeMap<String, u64>);
+
+/// 02 W2: beside the kinds of batches, the batches of files in ASCII are counted together.
+const ASCII: &str = "ASCII";
+
+/// The columns of a line about these kinds of batches.
+fn columns(letters: &str) -> Vec<String> {
+    letters
+        .chars()
+        .map(|letter| format!("B{letter}"))
+        .chain([ASCII.to_string()])
+        .collect()
+}
 
 fn answer_words(answer: u64) -> String {
     format!("file answer {answer}")
 }
 
-fn row_words(reason: u64, field: u64, letter: &str) -> String {
-    format!("reason {reason} field {field} in B{letter}")
+fn ascii_answer_words(answer: u64) -> String {
+    format!("file answer {answer} in {ASCII}")
+}
+
+fn row_words(reason: u64, field: u64, column: &str) -> String {
+    format!("reason {reason} field {field} in {column}")
 }
 
 /// 02 W1: what may be said of a batch with more than 1,000 DT, beside reason 12.
 const OF_MANY_TAS: [&str; 2] = ["sound", "rejected, but not for 12"];
 
-fn many_tas_words(said: &str, letter: &str) -> String {
-    format!("more than 1,000 DT, {said}, in B{letter}")
+fn many_tas_words(said: &str, column: &str) -> String {
+    format!("more than 1,000 DT, {said}, in {column}")
 }
 
 fn has_many_tas(records: &[u8]) -> bool {
     let is_tas = |record: &&[u8]| code_of(record) == "DT";
     records.len() > 1_000 * RECORD && records.chunks(RECORD).filter(is_tas).count() > 1_000
+}
+
+/// Files in words, and whether a file with its answer is one of them.
+type Files = (&'static str, fn(&[u8], u64) -> bool);
+
+/// 02 W2: files about their first two bytes, and files in ASCII about their unprintable bytes.
+#[rustfmt::skip]
+const ABOUT_ASCII: [Files; 11] = [
+    ("the byte 46 alone", |file, _| *file == ASCII_FH[..1]),
+    ("the bytes 46 48 alone", |file, _| *file == ASCII_FH),
+    ("46 48, then EBCDIC", |file, _| is_ascii(file) && goes_on(file, |byte| byte)),
+    ("C6 C8, then ASCII", |file, _| file.starts_with(&[0xC6, 0xC8]) && goes_on(file, to_ebcdic)),
+    ("66 68, then ASCII", |file, _| file.starts_with(&[0x66, 0x68]) && goes_on(file, to_ebcdic)),
+    ("46 without 48, then ASCII", |file, _| goes_on(file, to_ebcdic) && file[0] == 0x46 && file[1] != 0x48),
+    ("48 without 46, then ASCII", |file, _| goes_on(file, to_ebcdic) && file[0] != 0x46 && file[1] == 0x48),
+    ("ASCII, all printable, accepted", |file, answer| answer == 0 && is_ascii(file) && !has_unprintable(file)),
+    ("ASCII, unprintable in fillers, accepted", |file, answer| answer == 0 && is_ascii(file) && has_unprintable(file)),
+    ("ASCII, IDs equal once translated, 6", |file, answer| answer / 100_000 == 6 && is_ascii(file) && has_ids_apart(file)),
+    ("ASCII, IDs equal once translated, 7", |file, answer| answer / 100_000 == 7 && is_ascii(file) && has_ids_apart(file)),
+];
+
+fn about_ascii_words(about: &str) -> String {
+    format!("file of {about}")
+}
+
+/// Whether the second record, its bytes read so, is a batch header.
+fn goes_on(file: &[u8], read: fn(u8) -> u8) -> bool {
+    let code = |code: &[u8]| code_of(&[read(code[0]), read(code[1])]);
+    let second = file.get(RECORD..RECORD + 2);
+    second.is_some_and(|second| matches!(code(second), "BN" | "BC" | "BW" | "BI" | "BA"))
+}
+
+fn has_unprintable(file: &[u8]) -> bool {
+    file.iter().any(|&byte| to_ascii(to_ebcdic(byte)).is_none())
+}
+
+/// Whether a Payment ID of a well nested file in ASCII is not byte for byte its detail's.
+fn has_ids_apart(file: &[u8]) -> bool {
+    let mut id: &[u8] = &[];
+    file.chunks_exact(RECORD).any(|record| {
+        match code_of(&[record[0], record[1]].map(to_ebcdic)) {
+            "DN" | "DC" | "DW" | "DI" | "DA" => id = of(record, 23),
+            "DX" | "DT" | "DP" => return of(record, 65) != id,
+            _ => {}
+        }
+        false
+    })
 }
 
 impl Counts {
@@ -100,12 +164,25 @@ impl Counts {
 
     fn count(&mut self, answer: u64, file: &[u8], report: &[u8]) {
         self.add(answer_words(answer / 100_000), 1);
-        for [first, records, _, _, _, reason, _, field] in rows(report).skip(1).filter(|_| answer == 0) {
+        if is_ascii(file) {
+            self.add(ascii_answer_words(answer / 100_000), 1);
+        }
+        for (about, _) in ABOUT_ASCII.iter().filter(|(_, is_so)| is_so(file, answer)) {
+            self.add(about_ascii_words(about), 1);
+        }
+        if answer == 0 {
+            self.count_rows(is_ascii(file), &translated(file), report);
+        }
+    }
+
+    fn count_rows(&mut self, is_ascii: bool, file: &[u8], report: &[u8]) {
+        for [first, records, _, _, _, reason, _, field] in rows(report).skip(1) {
             let batch = &file[(first as usize - 1) * RECORD..][..records as usize * RECORD];
-            let letter = &code_of(batch)[1..];
-            self.add(row_words(reason, field, letter), 1);
-            if reason != 12 && has_many_tas(batch) {
-                self.add(many_tas_words(OF_MANY_TAS[usize::from(reason > 0)], letter), 1);
+            for column in [code_of(batch)].into_iter().chain(is_ascii.then_some(ASCII)) {
+                self.add(row_words(reason, field, column), 1);
+                if reason != 12 && has_many_tas(batch) {
+                    self.add(many_tas_words(OF_MANY_TAS[usize::from(reason > 0)], column), 1);
+                }
             }
         }
     }
@@ -122,23 +199,32 @@ impl Counts {
         let mut not_seen = Vec::new();
         println!("file answers:");
         for answer in 0..=13 {
-            println!("{answer:>4} {:>8}", self.take(answer_words(answer), &mut not_seen));
+            print!("{answer:>4} {:>8}", self.take(answer_words(answer), &mut not_seen));
+            // 01 File answers 1: a file without bytes is not in ASCII.
+            if answer != 1 {
+                print!("   {ASCII} {:>6}", self.take(ascii_answer_words(answer), &mut not_seen));
+            }
+            println!();
         }
         println!("batch reason, 004 field, rows:");
         for &(reason, field, letters) in ALLOWED {
             print!("{reason:>4} {field:>4}");
-            for letter in letters.split("").filter(|letter| !letter.is_empty()) {
-                print!("   B{letter} {:>6}", self.take(row_words(reason, field, letter), &mut not_seen));
+            for column in columns(letters) {
+                print!("   {column} {:>6}", self.take(row_words(reason, field, &column), &mut not_seen));
             }
             println!();
         }
         println!("batches with more than 1,000 DT, beside those of reason 12:");
         for said in OF_MANY_TAS {
             print!("{said:>28}");
-            for letter in ["N", "C", "W", "I", "A"] {
-                print!("   B{letter} {:>6}", self.take(many_tas_words(said, letter), &mut not_seen));
+            for column in columns("NCWIA") {
+                print!("   {column} {:>6}", self.take(many_tas_words(said, &column), &mut not_seen));
             }
             println!();
+        }
+        println!("files about ASCII:");
+        for (about, _) in ABOUT_ASCII {
+            println!("{about:>40} {:>6}", self.take(about_ascii_words(about), &mut not_seen));
         }
         println!("not seen: {}", listed(not_seen));
         println!("seen, but not allowed: {}", listed(self.0.into_keys().collect()));

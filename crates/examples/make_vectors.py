@@ -1,22 +1,23 @@
 #!/usr/bin/env python3
-"""Writes what this program is run on, and what documents 01 and 004 say of it.
+"""Writes what this program is run on, and what documents 01, 02 and 004 say of it.
 
-data/records.bin holds sound records, data/book.bin a code book, stdin a table with a case a line, stdout what the judge has to answer.
-The judge is reference/srf.py. With the word `counts` it prints how many cases have each file answer, and how many batches each reason
-and field.
+data/records.bin holds sound records, data/book.bin a code book, data/ascii.bin the ASCII of each EBCDIC byte, stdin a table with a case
+a line, stdout what the judge has to answer. The judge is reference/srf.py. With the word `counts` it prints how many cases have each file
+answer, and how many batches each reason and field, in EBCDIC and in ASCII.
 """
 import collections
 import pathlib
 import random
+import string
 import sys
 
 here = pathlib.Path(__file__).parent
 sys.path.insert(0, str(here.parent.parent / "reference"))
 from srf import (  # noqa: E402
     FILLERS, KINDS, LETTERS, PLACES, SYMBOL, VOUCHERS, amount, code_of, coded, ebcdic, flagged, judged, record, section,
-    templates, write_cases,
+    templates, translated, write_cases,
 )
-LABEL = 48
+LABEL = 56
 REPORT = 1024
 
 
@@ -73,7 +74,7 @@ def whole(batches):
 # ---- the table: a case is a label, batches, changes, and what the judge is lent
 
 table, says = [], []
-answers, pairs = collections.Counter(), collections.Counter()
+answers, pairs = [{taken: collections.Counter() for taken in ("EBCDIC", "ASCII")} for _ in range(2)]  # by what a file is taken for
 
 # a batch: its letter, its payments, and the DX, DT and DP of each
 N, C, W, I, A = [(letter, 1, 1, 0, 0) for letter in LETTERS]
@@ -112,6 +113,11 @@ def kinds(count, last=34):
     return "kinds", count, last
 
 
+# The ASCII of each EBCDIC byte. Code page 037 has the 256 characters of Latin-1: what is not printable in ASCII stays so.
+LATIN = bytes(range(256)).decode("cp037").encode("latin-1")
+ASCII = "ASCII",  # the file made so far, in ASCII; the bytes of later changes stand as they are
+
+
 def fill(space, start, end, data):
     for i in range(start - 1, end):
         space[i] = data[(i - start + 1) % len(data)]
@@ -132,6 +138,8 @@ def lent(batches, changes, file, book):
             places = [i for i, rec in enumerate(records) if code_of(rec) == "DT"]
             for n, i in enumerate(places):
                 records[i] = written(records[i], (last, "%04d" % (n % count)))
+        elif kind == "ASCII":
+            records = [bytearray(rec.translate(LATIN)) for rec in records]
         else:
             fill(codes, *rest)
     bytes_of_file = b"".join(map(bytes, records))
@@ -158,20 +166,31 @@ def flat(changes):
 
 def add(label, batches, *changes, expect, file=None, book=None, report=None):
     """A case, with what the judge has to answer: the number of a refusal; for an accepted file the reason, the record and the field
-    of each batch that is not sound, by the batch's number from 1; None: whatever the judge above says."""
-    changes = list(flat(changes))
-    room = 64 * (1 + len(batches)) if report is None else report
-    bytes_of_file, codes = lent(batches, changes, file, book)
+    of each batch that is not sound, by the batch's number from 1; None: whatever the judge above says. And where it has a file that
+    is not in ASCII yet, the same in ASCII: where that says all its bytes, the answer is the same (02 W2)."""
+    changes, lengths = list(flat(changes)), dict(file=file, book=book, report=report)
+    found, sent = add_case(label, batches, changes, lengths, expect)
+    if ASCII not in changes and sent[:2] not in (b"", b"FH"):
+        same = translated(sent.translate(LATIN)) == sent
+        add_case(label + ", ASCII", batches, changes + [ASCII], lengths, found if same else None)
+
+
+def add_case(label, batches, changes, lengths, expect):
+    """What is found in a case, and its file."""
+    bytes_of_file, codes = lent(batches, changes, lengths["file"], lengths["book"])
+    room = 64 * (1 + len(batches)) if lengths["report"] is None else lengths["report"]
     answer, rows = judged(bytes_of_file, codes, room)
     found = answer or {n: tuple(row[5:]) for n, row in enumerate(rows) if n and row[5]}
     assert expect is None or found == expect, (label, found, expect)
     assert len(label) < LABEL and room <= REPORT and (answer or len(rows) == 1 + len(batches)), label
-    answers[answer // 100000] += 1
-    pairs.update((row[5], row[7]) for row in rows[1:] if row[5])
-    text = [w.hex().upper() if isinstance(w, bytes) else str(w) for w in words(batches, changes, dict(file=file, book=book, report=report))]
+    taken = "ASCII" if bytes_of_file[:2] == b"FH" else "EBCDIC"
+    answers[taken][answer // 100000] += 1
+    pairs[taken].update((row[5], row[7]) for row in rows[1:] if row[5])
+    text = [w.hex().upper() if isinstance(w, bytes) else str(w) for w in words(batches, changes, lengths)]
     table.append(label.ljust(LABEL) + " ".join(text))
     shown = [str(answer)] + [" ".join(map(str, row)) for row in rows] + ["kept"]
     says.append(label.ljust(LABEL) + " / ".join(shown))
+    return found, bytes_of_file
 
 
 def fault(reason, rec, field, batch=1):
@@ -225,7 +244,7 @@ def coded_as(rec, value):
 # 01 Worked examples: the program's own
 EXAMPLE = paid([N], {(0, 0): 12345})
 add("one sound payment of 12345 cents", [N], EXAMPLE, expect=SOUND)
-assert says[-1][LABEL:] == "0 / 0 0 6 1 0 12345 1 0 / 2 4 1 0 12345 0 0 0 / kept"
+assert [line[LABEL:] for line in says] == ["0 / 0 0 6 1 0 12345 1 0 / 2 4 1 0 12345 0 0 0 / kept"] * 2
 add("the same with the DX changed to BT", [N], EXAMPLE, coded_as(DX, "BT"), expect=500004)
 for letter in LETTERS:
     add("sound " + letter, [(letter, 1, 1, 1, 1)], expect=SOUND)
@@ -366,8 +385,46 @@ add("a low byte in a record code: 5", [N], at(DX, 2, 2, b"\x3F"), expect=500004)
 add("EBCDIC digits F0 to F9 are accepted", [N], paid([N], {(0, 0): 1234567890}), expect=SOUND)
 add("an amount in ASCII digits", [N], at(DETAIL, 23, 42, b"0" * 17 + b"100"), expect=700003)
 add("a blank in ASCII", [N], at(DETAIL, 60, 60, b" "), expect=700003)
-add("FH in ASCII", [N], at(FH, 1, 2, b"FH"), expect=500001)
 add("the version in ASCII", [N], at(FH, 43, 45, b"201"), expect=700001)
+
+# W2: a file is ASCII throughout, or not at all, by its first two bytes
+add("46 48, and EBCDIC after it", [N], at(FH, 1, 2, b"FH"), expect=500002)
+add("C6 C8, and ASCII after it", [N], ASCII, at(FH, 1, 2, ebcdic("FH")), expect=500002)
+add("46 C8, and ASCII after it", [N], ASCII, at(FH, 2, 2, ebcdic("H")), expect=500001)
+add("66 68, and ASCII after it", [N], ASCII, at(FH, 1, 2, b"fh"), expect=500001)
+add("46 48 in the second record of EBCDIC", [N], at(HEAD, 1, 2, b"FH"), expect=500002)
+add("46 48 in the second record of ASCII", [N], ASCII, at(HEAD, 1, 2, b"FH"), expect=500002)
+add("an EBCDIC record code in ASCII", [N], ASCII, at(DX, 1, 2, ebcdic("DX")), expect=500004)
+add("an amount in EBCDIC digits in ASCII", [N], ASCII, at(DETAIL, 23, 42, ebcdic(amount(100))), expect=700003)
+add("an EBCDIC blank in an ASCII count: no digit", [N], ASCII, at(BT, 3, 3, b"\x40"), expect=fault(2, BT, 99))
+add("46 alone", [N], ASCII, file=1, expect=200000)
+add("46 48 alone", [N], ASCII, file=2, expect=200000)
+add("46 48, and EBCDIC up to 850 bytes", [N], at(FH, 1, 2, b"FH"), file=850, expect=500002)
+add("46 48, and ASCII up to 850 bytes", [N], ASCII, file=850, expect=500002)
+
+# W2: bytes that are not printable are 3F
+for byte in (0x00, 0x09, 0x1F, 0x7F, 0x80, 0xC1, 0xFF):
+    name = "hex %02X in " % byte
+    add(name + "a text field of ASCII", [N], ASCII, at(DETAIL, 60, 60, bytes([byte])), expect=700003)
+    add(name + "an amount of ASCII", [N], ASCII, at(BT, 11, 11, bytes([byte])), expect=700005)
+    add(name + "a record code of ASCII", [N], ASCII, at(DX, 2, 2, bytes([byte])), expect=500004)
+    add(name + "one Payment ID of ASCII", [N], ASCII, at(DX, 22, 22, bytes([byte])), expect=500004)
+    add(name + "both Payment IDs of ASCII", [N], ASCII, *[at(rec, 22, 22, bytes([byte])) for rec in (DETAIL, DX)], expect=700003)
+    add(name + "the fillers of ASCII", [N], ASCII, at(FH, 46, 850, bytes([byte])), at(HEAD, 57, 59, bytes([byte])), at(FT, 59, 850, bytes([byte])), expect=SOUND)
+add("ASCII IDs that differ in unprintable bytes nest", [N], ASCII, at(DETAIL, 21, 22, b"\x09\x7F"), at(DX, 21, 22, b"\x80\0"), expect=700003)
+add("ASCII IDs that differ in a printable byte too", [N], ASCII, at(DETAIL, 20, 22, b"A\x09\x7F"), at(DX, 20, 22, b"B\x80\0"), expect=500004)
+add("EBCDIC IDs that differ in low bytes do not nest", [N], at(DETAIL, 22, 22, b"\x3E"), at(DX, 22, 22, b"\x3F"), expect=500004)
+
+# W2: printable bytes are those of code page 037; the book is never ASCII
+add("each of 20 to 7E in a text field of ASCII", [N], ASCII, at(DX, 23, 117, bytes(range(0x20, 0x7F))), expect=SOUND)
+for name, text in [("punctuation", string.punctuation), ("capitals and digits", string.ascii_uppercase + string.digits), ("small letters", string.ascii_lowercase)]:
+    system = at(FH, 3, 42, text.ljust(40).encode("ascii"))
+    add("InputSystem of %s in ASCII" % name, [N], ASCII, system, code(6, ebcdic(text.ljust(40))), expect=SOUND)
+    add("InputSystem of %s, the book's in ASCII" % name, [N], ASCII, system, code(6, text.ljust(40).encode("ascii")), expect=800001)
+add("punctuation that the book has in code page 500", [N], ASCII, at(FH, 3, 42, string.punctuation.ljust(40).encode("ascii")),
+    code(6, string.punctuation.ljust(40).encode("cp500")), expect=800001)
+add("book, all codes in ASCII", [N], code(0, b"".join(one[:6] + one[6:].translate(LATIN) for one in SECTIONS)), expect=800001)
+add("book, all bytes in ASCII", [N], code(0, BOOK.translate(LATIN)), expect=400000)
 
 # 01 File answers, 8 and 9
 for value in ["", "PAYROL", "PAYROLLS", "payroll", " PAYROLL", "PAYROLL" + " " * 32 + "X"]:
@@ -596,7 +653,11 @@ for k in range(1, 121):
     batches = [(letter, rng.randrange(1, 4), rng.randrange(1, 3), rng.randrange(3), rng.randrange(3)) for letter in letters]
     add("several batches, %d" % k, batches, *[any_change(whole(batches)) for _ in range(rng.randrange(1, 6))], expect=None)
 
-assert set(answers) == set(range(14)) - {3}  # 3 takes a file of more than 55,704,750 bytes
+assert set(answers["EBCDIC"]) == set(range(14)) - {3}  # 3 takes a file of more than 55,704,750 bytes
+assert set(answers["ASCII"]) == set(answers["EBCDIC"]) - {1} and set(pairs["ASCII"]) == set(pairs["EBCDIC"])
+(here / "data" / "ascii.bin").write_bytes(LATIN)
 write_cases(here, BOOK, ENDS + [r for letter in LETTERS for r in TEMPLATES[letter]], table, LABEL, says)
 if sys.argv[1:] == ["counts"]:
-    print(len(table), "cases; by answer", sorted(answers.items()), "; by reason and field", sorted(pairs.items()))
+    for taken in answers:
+        print(sum(answers[taken].values()), "cases in", taken, "; by answer", sorted(answers[taken].items()),
+              "; by reason and field", sorted(pairs[taken].items()))

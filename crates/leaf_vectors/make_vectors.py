@@ -1,5 +1,5 @@
 #!/usr/bin/env python3
-"""Writes stdin and stdout of this program: records in EBCDIC by Python's own code page 037, and what documents 01 and 004 say of them."""
+"""Writes stdin and stdout of this program: records in EBCDIC by Python's own code page 037 or in ASCII, and what documents 01, 02 and 004 say of them."""
 import datetime
 import pathlib
 
@@ -47,6 +47,18 @@ def record(code="BN", schedule="A", date="2024-02-29", amount="0" * 20, routing=
     return bytes(data), " ".join(str(int(x)) for x in says) + " \n"
 
 
+def in_ascii(vector):
+    """The record in ASCII, and its line: the same, then what the bytes of positions 3 to 258 are seen as."""
+    data, line = vector
+    return data.decode("cp037").encode("ascii"), line[:-1] + "".join("%d " % byte for byte in data[2:258]) + "\n"
+
+
+def page():
+    """All 256 bytes at positions 3 to 258 of an ASCII record: printable ones become code page 037's, all others 3F."""
+    seen = [ord(bytes([b]).decode("ascii").encode("cp037")) if 0x20 <= b <= 0x7E else 0x3F for b in range(256)]
+    return b"FH" + bytes(range(256)) + b" " * 592, "1 " + "0 " * 8 + "".join("%d " % byte for byte in seen) + "\n"
+
+
 vectors = [record(code=c) for c in CODES + ["fh", "XX", "B ", "DB"]]
 for day in "2000-02-29 1900-02-29 2023-02-29 0001-01-01 0000-01-01 9999-12-31 2024-04-31 2024-12-31 2024-13-01 2024-00-10 2024-01-00 2024/01/01 20240101--".split():
     vectors.append(record(date=day, created=day.replace("-", "").ljust(8)[:8]))
@@ -57,6 +69,12 @@ vectors += [record(routing=r) for r in ["000000000", "01234567", "0123456X8", " 
 vectors += [record(amount=a) for a in ["9" * 20, "1" + "0" * 19, "0" * 9 + "12345678901", "0" * 15 + "12345", "12345", "0" * 19 + "A"]]
 order = ["A", "a", "1", "AB", "A1", "Aa", "Z", "9", "0", "-"]
 vectors += [record(schedule=x, original=y) for x in order for y in order]
+twins = [record(code="FH", date=day, created=day.replace("-", "")) for day in ["2000-02-29", "1900-02-29", "2024-13-01"]]
+twins += [record(code="FH", month=m) for m in ["0124", "1300", "12A0"]]
+twins += [record(code="FH", routing=r) for r in ["000000000", "121234567", "131234567", "0123456X8", " 12345678"]]
+twins += [record(code="FH", amount=a) for a in ["9" * 20, "0" * 9 + "12345678901", "12345", "0" * 19 + "A"]]
+twins += [record(code="FH", schedule=x, original=y) for x in order for y in order]
+vectors += twins + [in_ascii(vector) for vector in twins] + [page()]
 vectors += [record(raw={56: 0x3F}), record(raw={57: 0x3F}), record(raw={17: 0x00}), record(raw={56: 0x40}), record(raw={20: 0xFF})]
 
 (here / "stdin").write_bytes(b"".join(data for data, _ in vectors))

@@ -1,11 +1,14 @@
 //! The proved judge, the independent judge and a bare scan on the same large files: `bench [RECORDS...]`, default 1,000, 8,000 and 65,535.
-//! Each time is the best of nine rounds, in each of which every contestant has its turn, so that all see the same machine.
+//! Each time is the best of nine rounds, in each of which every contestant has its turn, so that all see the same machine. A file whose
+//! bytes all have a character is then measured once more in ASCII (02 W2), in rounds of its own, so that neither drives the other from the
+//! caches.
 
 use std::collections::BTreeSet;
 use std::hint::black_box;
 use std::process::exit;
 use std::time::{Duration, Instant};
 
+use compare::ascii::{to_ascii, to_ebcdic, CODE_PAGE_037};
 use compare::make::book::{self, Book};
 use compare::make::record::{add_record, ebcdic, finish, set, set_number, set_text};
 use compare::random::Random;
@@ -345,17 +348,29 @@ fn batches_of_hundred(records: usize) -> Vec<u8> {
     file.end(&digits(payments as u64 - 1))
 }
 
-/// BN batches of so many payments, the last of what has room. The IDs of a batch differ in their last byte only, and fall.
-fn batches_that_fall(records: usize, payments: u8) -> Vec<u8> {
+/// The bytes that text may hold, from FF down (01 Bytes).
+fn all_text() -> Vec<u8> {
+    (0x40..=0xFF).rev().collect()
+}
+
+/// Those that have a character, from the largest down (02 W2).
+fn characters() -> Vec<u8> {
+    let mut characters = CODE_PAGE_037.to_vec();
+    characters.sort_by(|one, other| other.cmp(one));
+    characters
+}
+
+/// BN batches, the last of what has room. The IDs of a batch differ in their last byte only, and fall by these.
+fn batches_that_fall(records: usize, last_bytes: &[u8]) -> Vec<u8> {
     let mut file = File::new(records);
     let mut id = digits(0);
     for schedule_number in 1.. {
         file.open('N', schedule_number, location(5));
-        for number in 0..payments {
+        for last_byte in last_bytes {
             if file.room() < 2 {
                 break;
             }
-            id[19] = 0xFF - number;
+            id[19] = *last_byte;
             file.pay(&id, 12_345);
         }
         if file.room() < 4 {
@@ -416,15 +431,16 @@ fn end_in_the_last(classes: usize) -> u64 {
         .expect("a class has one")
 }
 
-fn is_text(word: u64) -> bool {
-    word < 1 << 32 && (word as u32).to_le_bytes().iter().all(|&byte| byte >= 0x40)
+/// Whether the word is four of these bytes.
+fn is_of(word: u64, bytes: &[bool; 256]) -> bool {
+    word < 1 << 32 && (word as u32).to_le_bytes().iter().all(|&byte| bytes[usize::from(byte)])
 }
 
 /// IDs with one hash, ascending: what an attacker who knows the judge's sieve would send. A step of that hash takes a word of the ID:
 /// hash % 2^32 * MIX + hash / 2^32 + word. It is undone here from one end value, with the high halves drawn at random.
 fn ids_of_one_hash(count: usize, end: u64) -> Vec<Id> {
     const MIX: u64 = sieve::MIX;
-    let random = Random::new(1);
+    let (random, text) = (Random::new(1), std::array::from_fn(|byte| byte >= 0x40));
     let mut ids = BTreeSet::new();
     while ids.len() < count {
         let (mut hash, mut id) = (end, [0; 20]);
@@ -434,7 +450,7 @@ fn ids_of_one_hash(count: usize, end: u64) -> Vec<Id> {
             let low = hash.wrapping_sub(high).wrapping_sub(word) / MIX;
             hash = high << 32 | low;
             id[4 * place..4 * place + 4].copy_from_slice(&(word as u32).to_le_bytes());
-            is_text(word) && low < 1 << 32
+            is_of(word, &text) && low < 1 << 32
         });
         if found {
             ids.insert(id);
@@ -452,19 +468,23 @@ fn in_descending_order(mut ids: Vec<Id>) -> Vec<Id> {
     ids
 }
 
-/// Four bytes of an ID, counted down from FF FF FF FF in order of the bytes; none is below 40.
-fn four_from_the_top() -> impl Iterator<Item = [u8; 4]> {
-    (0..192_u64.pow(4)).map(|number| [3, 2, 1, 0].map(|power| 0xFF - (number / 192_u64.pow(power) % 192) as u8))
+/// Four of these bytes, which fall, counted down in order of the bytes.
+fn four_from_the_top(bytes: &[u8]) -> impl Iterator<Item = [u8; 4]> + '_ {
+    let many = bytes.len();
+    (0..many.pow(4)).map(move |number| [3, 2, 1, 0].map(|power| bytes[number / many.pow(power) % many]))
 }
 
-/// IDs with one hash that share all the bytes they can. Two words are the same in all, the third is counted down, and the last two are
-/// solved for the end value; one third word in six has a solution, so that 32,000 IDs share nine bytes.
-fn ids_of_one_hash_and_start(count: usize, end: u64) -> Vec<Id> {
-    let mut id = digits(0);
+/// IDs of these bytes with one hash that share all the bytes they can. Two words are zeros in all, the third is counted down, and the
+/// last two are solved for the end value. Of all text, one third word in six has a solution, so that 32,000 IDs share nine bytes; of
+/// characters, far fewer have one, and 32,000 IDs share eight bytes.
+fn ids_of_one_hash_and_start(count: usize, end: u64, zero: u8, bytes: &[u8]) -> Vec<Id> {
+    let mut id = [zero; 20];
+    let are_listed = std::array::from_fn(|byte| bytes.contains(&(byte as u8)));
+    let is_text = |word| is_of(word, &are_listed);
     let word = |bytes: &[u8]| u64::from(u32::from_le_bytes([bytes[0], bytes[1], bytes[2], bytes[3]]));
     let start = sieve::mix(word(&id[..4]), word(&id[4..8]));
     let mut ids = Vec::with_capacity(count);
-    for third in four_from_the_top() {
+    for third in four_from_the_top(bytes) {
         id[8..12].copy_from_slice(&third);
         // The hash before the last word is `before` + the fourth word, and its low half is `end` / MIX or a little less.
         let before = sieve::mix(sieve::mix(start, word(&third)), 0);
@@ -493,7 +513,7 @@ fn ids_with_late_suspects(count: usize, classes: usize) -> Vec<Id> {
     let mut ids = Vec::with_capacity(count);
     let mut sieves = vec![[false; sieve::SLOTS]; classes];
     let late = count - sieve::WALKS - 1;
-    for (tried, last) in four_from_the_top().enumerate() {
+    for (tried, last) in four_from_the_top(&characters()).enumerate() {
         if ids.len() == count {
             break;
         }
@@ -525,12 +545,27 @@ fn rejected_in(report: &[u8]) -> usize {
     report.chunks(64).skip(1).filter(|row| row[40..48] != [0; 8]).count()
 }
 
-/// The best times of the bare scan, the independent judge and the proved one.
-fn measure(name: &str, file: &[u8], book: &[u8], rejected: usize) -> [Duration; 3] {
-    let mut reports = [(); 2].map(|()| vec![0; 64 * (1 + file.len() / layout::RECORD / 4)]);
-    let [own, theirs] = &mut reports;
-    let mut best = [Duration::MAX; 3];
-    for _ in 0..ROUNDS {
+/// The file by the inverse table; nothing where a byte has no character.
+fn in_ascii(file: &[u8]) -> Option<Vec<u8>> {
+    file.iter().map(|&byte| to_ascii(byte)).collect()
+}
+
+/// A file, the report of each judge for it, and the best times of the bare scan, the independent judge and the proved one.
+struct Contest<'a> {
+    file: &'a [u8],
+    reports: [Vec<u8>; 2],
+    best: [Duration; 3],
+}
+
+impl Contest<'_> {
+    fn new(file: &[u8]) -> Contest<'_> {
+        let reports = [(); 2].map(|()| vec![0; 64 * (1 + file.len() / layout::RECORD / 4)]);
+        let best = [Duration::MAX; 3];
+        Contest { file, reports, best }
+    }
+
+    fn round(&mut self, name: &str, book: &[u8], rejected: usize) {
+        let (file, [own, theirs]) = (self.file, &mut self.reports);
         let (_, scan) = time(|| bare_scan(file));
         let (answer, independent) = time(|| judge::judge(file, book, theirs));
         let (proved_answer, proved) = time(|| proved::judge(file, book, own));
@@ -542,16 +577,38 @@ fn measure(name: &str, file: &[u8], book: &[u8], rejected: usize) -> [Duration; 
             eprintln!("{name}: {} batches are rejected, and {rejected} were to be", rejected_in(theirs));
             exit(1);
         }
-        best = [best[0].min(scan), best[1].min(independent), best[2].min(proved)];
+        let best = self.best;
+        self.best = [best[0].min(scan), best[1].min(independent), best[2].min(proved)];
     }
-    best
 }
 
-fn print(name: &str, records: usize, [scan, independent, proved]: [Duration; 3], proved_a: Duration) {
+/// The best times for the file, and for the file in ASCII.
+type Times = ([Duration; 3], Option<[Duration; 3]>);
+
+fn measure(name: &str, file: &[u8], book: &[u8], rejected: usize) -> Times {
+    let mut ebcdic = Contest::new(file);
+    (0..ROUNDS).for_each(|_| ebcdic.round(name, book, rejected));
+    let Some(twin) = in_ascii(file) else {
+        return (ebcdic.best, None);
+    };
+    let mut ascii = Contest::new(&twin);
+    (0..ROUNDS).for_each(|_| ascii.round(&format!("{name}, in ASCII"), book, rejected));
+    if ascii.reports != ebcdic.reports {
+        eprintln!("{name}: the reports in ASCII and in EBCDIC differ");
+        exit(1);
+    }
+    (ebcdic.best, Some(ascii.best))
+}
+
+fn print(name: &str, records: usize, ([scan, independent, proved], ascii): Times, proved_a: Duration) {
     let ms = |time: Duration| time.as_secs_f64() * 1e3;
     let ratio = |time: Duration, to: Duration| time.as_secs_f64() / to.as_secs_f64();
+    let in_ascii = ascii.map_or("- | - | -".to_string(), |[_, independent, proved_in_ascii]| {
+        let (rust, own, to_ebcdic) = (ms(independent), ms(proved_in_ascii), ratio(proved_in_ascii, proved));
+        format!("{rust:.2} | {own:.2} | {to_ebcdic:.2}")
+    });
     println!(
-        "| {name} | {records} | {:.2} | {:.2} | {:.2} | {:.2} | {:.2} | {:.2} |",
+        "| {name} | {records} | {:.2} | {:.2} | {:.2} | {:.2} | {:.2} | {:.2} | {in_ascii} |",
         ms(scan),
         ms(independent),
         ms(proved),
@@ -574,13 +631,18 @@ fn main() {
     let of_both_flags = || (0..200).map(|number| (number, number as u8 % 2));
     let (small, large) = (sound_book(1_000, of_both_flags()), sound_book(LOCATIONS, of_both_flags()));
     let debits = sound_book(1_000, (0..KINDS).map(|number| (number, 0)));
-    println!("| file | records | bare scan, ms | Rust judge, ms | proved judge, ms | proved / Rust | proved / scan | times (a) |");
-    println!("|---|---|---|---|---|---|---|---|");
+    println!(
+        "| file | records | bare scan, ms | Rust judge, ms | proved judge, ms | proved / Rust | proved / scan | times (a) \
+         | Rust judge in ASCII, ms | proved judge in ASCII, ms | proved, ASCII / EBCDIC |"
+    );
+    println!("|---|---|---|---|---|---|---|---|---|---|---|");
     for records in sizes {
         let ids = |numbers: Vec<u64>| numbers.into_iter().map(digits).collect::<Vec<_>>();
         let (payments, batches) = (payments_of_one(records), batches_of_four_in(records));
         let accounts = accounts_of_one(records);
         let classes = sieve::classes(records - 2);
+        let of_one_hash = |zero, bytes: &[u8]| ids_of_one_hash_and_start(payments, end_in_the_last(classes), zero, bytes);
+        let printable: Vec<u8> = (0x20..=0x7E).rev().collect();
         type Make<'a> = &'a dyn Fn() -> Vec<u8>;
         let ordinary: [(&str, Make, &[u8]); 6] = [
             (
@@ -607,7 +669,7 @@ fn main() {
             ("(f) batches of 100 payments", &|| batches_of_hundred(records), &small),
         ];
         // Each with the batches that are rejected.
-        let hostile: [(&str, Make, usize); 16] = [
+        let hostile: [(&str, Make, usize); 20] = [
             (
                 "(c) with schedule numbers shuffled",
                 &|| batches_of_four(records, &shuffled(records)),
@@ -646,12 +708,17 @@ fn main() {
             ),
             (
                 "(f) of 190 payments, IDs share 19 bytes and descend",
-                &|| batches_that_fall(records, 190),
+                &|| batches_that_fall(records, &all_text()[..190]),
+                0,
+            ),
+            (
+                "(f) of 95 payments, IDs of characters share 19 bytes and descend",
+                &|| batches_that_fall(records, &characters()),
                 0,
             ),
             (
                 "(f) of two payments, IDs share 19 bytes and descend",
-                &|| batches_that_fall(records, 2),
+                &|| batches_that_fall(records, &characters()[..2]),
                 0,
             ),
             (
@@ -671,7 +738,25 @@ fn main() {
             ),
             (
                 "(a) with IDs of one hash of the last class, nine bytes shared, descending",
-                &|| one_batch(records, &ids_of_one_hash_and_start(payments, end_in_the_last(classes))),
+                &|| one_batch(records, &of_one_hash(0xF0, &all_text())),
+                0,
+            ),
+            (
+                "(b) with IDs of characters and of one hash of the last class",
+                &|| one_batch(records, &in_shuffled_order(&of_one_hash(0xF0, &characters()))),
+                0,
+            ),
+            (
+                "(a) with IDs of characters and of one hash of the last class, eight bytes shared, descending",
+                &|| one_batch(records, &of_one_hash(0xF0, &characters())),
+                0,
+            ),
+            (
+                "(a) with IDs whose bytes in ASCII are of one hash of the last class, eight bytes shared, descending",
+                &|| {
+                    let ids = of_one_hash(b'0', &printable).into_iter();
+                    one_batch(records, &ids.map(|id| id.map(to_ebcdic)).collect::<Vec<_>>())
+                },
                 0,
             ),
             (
@@ -714,7 +799,7 @@ fn main() {
         let mut proved_a = None;
         for (name, make, book, rejected) in ordinary.into_iter().chain(hostile).chain(of_kinds) {
             let times = measure(name, &make(), book, rejected);
-            print(name, records, times, *proved_a.get_or_insert(times[2]));
+            print(name, records, times, *proved_a.get_or_insert(times.0[2]));
         }
     }
 }

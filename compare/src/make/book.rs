@@ -1,6 +1,7 @@
 //! Code books (01 Code book): sound ones, and ways to make them unsound.
 
 use super::record::{ebcdic, write_number, BLANK};
+use super::sender::printable;
 use crate::random::Random;
 
 pub const INPUT_SYSTEMS: usize = 1;
@@ -57,6 +58,17 @@ impl Book {
             let mut beside = code.clone();
             beside[place] = random.byte(BLANK, 0xFF);
             self.add(kind, &beside, random.below(2) as u8);
+        }
+    }
+
+    /// 02 W2: no code keeps a byte of text that has no character; those that become equal are one.
+    pub fn make_printable(&mut self) {
+        for (kind, section) in (1..).zip(std::mem::take(&mut self.0)) {
+            for entry in section {
+                let (code, flag) = entry.split_at(WIDTHS[kind - 1]);
+                let code: Vec<u8> = code.iter().map(|&byte| printable(byte)).collect();
+                self.add(kind, &code, flag.first().copied().unwrap_or(0));
+            }
         }
     }
 

@@ -3,8 +3,10 @@
 use super::book::{Book, BookDamage, BOOK_DAMAGES};
 use super::fields::{break_bytes, Rule, Way, ALL, BATCH_RULES, FILE_RULES, LABEL_RULES};
 use super::record::{code_of, fields_of, set, write_text, BLANK, CODES};
+use super::sender::{unprintable, Sender};
 use super::sound::{join_schedule_number, Batch, Payment, Place};
 use super::Input;
+use crate::ascii::{to_ebcdic, ASCII_FH};
 use crate::layout::{of, place, FILLERS, RECORD};
 use crate::random::Random;
 
@@ -26,7 +28,25 @@ pub enum Change {
     /// A byte below 40 at a filler's first or last byte, or beside them.
     LowBorder,
     AnyBytes,
+    /// 02 W2: a byte that is not printable in ASCII.
+    Unprintable,
+    UnprintableFiller,
+    /// One in the Payment ID, and mostly others in its place in the payment's other records: all become equal.
+    UnprintableId,
+    /// An earlier ID of the batch, but for such bytes in both.
+    UnprintableRepeat,
 }
+
+/// 02 W2: only the first of these begins a file in ASCII.
+const STARTS: [[u8; 2]; 7] = [
+    ASCII_FH,
+    [0xC6, 0xC8],
+    [0x66, 0x68],
+    [0x48, 0x46],
+    [0x46, 0xC8],
+    [0xC6, 0x48],
+    [0x46, 0x46],
+];
 
 #[derive(Clone, Copy, Debug)]
 pub enum Damage {
@@ -34,6 +54,8 @@ pub enum Damage {
     Field(Place, u64, Way, bool),
     Record(Place, Change),
     Book(BookDamage),
+    /// The file's first two bytes.
+    Start([u8; 2]),
     Cut(usize),
     Add(usize),
 }
@@ -42,6 +64,8 @@ pub enum Damage {
 pub enum When {
     BeforeTotals,
     AfterTotals,
+    /// Where the file is to be in ASCII, it is.
+    InAscii,
     /// Then records and places no longer match.
     AtTheEnd,
 }
@@ -82,6 +106,29 @@ pub fn plan(batches: &[Batch], random: &Random) -> Vec<Planned> {
         random,
     };
     (0..count).map(|_| aim.plan()).collect()
+}
+
+/// 02 W2: what a file in ASCII suffers beside the rest, and now and then another start for any file.
+pub fn plan_in_ascii(batches: &[Batch], sender: Sender, random: &Random) -> Vec<Planned> {
+    let aim = Aim {
+        batches,
+        batch: None,
+        file_alone: false,
+        long: false,
+        random,
+    };
+    let count = match sender {
+        Sender::Ebcdic => 0,
+        Sender::Ascii { .. } => random.pick(&[0, 0, 0, 0, 0, 0, 0, 0, 1, 2]),
+    };
+    let start = random.chance(60).then(|| Damage::Start(random.pick(&STARTS)));
+    let damages = (0..count).map(|_| aim.damage_in_ascii()).chain(start);
+    let planned = |damage| Planned {
+        damage,
+        when: When::InAscii,
+        seed: random.draw(),
+    };
+    damages.map(planned).collect()
 }
 
 /// Other faults of a file with too many records: 2 is tested before 3, and 3 before 4.
@@ -141,6 +188,18 @@ impl Aim<'_> {
         self.random.rarely(4, self.random.pick(&few), self.random.pick(&many))
     }
 
+    fn damage_in_ascii(&self) -> Damage {
+        use Change::*;
+        let change = self
+            .random
+            .pick(&[Unprintable, UnprintableFiller, UnprintableFiller, UnprintableId, UnprintableRepeat]);
+        let place = match change {
+            UnprintableId | UnprintableRepeat => self.place(23, ALL).unwrap_or(Place::FileHeader),
+            _ => self.any_place(),
+        };
+        Damage::Record(place, change)
+    }
+
     /// A rule whose field some record of the batch drawn has.
     fn field(&self, rules: &[Rule]) -> Damage {
         loop {
@@ -198,6 +257,7 @@ impl Target<'_> {
         match planned.damage {
             Damage::Field(place, field, way, joined) => self.break_field(place, field, way, joined, random),
             Damage::Record(place, change) => self.change(place, change, random),
+            Damage::Start(start) => self.input.file.iter_mut().zip(start).for_each(|(byte, start)| *byte = start),
             Damage::Cut(bytes) => self.input.file.truncate(self.input.file.len().saturating_sub(bytes)),
             Damage::Add(bytes) => self.input.file.extend((0..bytes).map(|_| random.byte(0, 255))),
             Damage::Book(_) => {}
@@ -271,6 +331,21 @@ impl Target<'_> {
         }
     }
 
+    /// 02 W2: unprintable bytes at one place of a payment's IDs; now and then one has another byte there and is no longer equal.
+    fn mark_ids(&mut self, detail: Place, at: usize, random: &Random) {
+        let Place::Detail(batch, payment) = detail else { return };
+        for number in 0..self.input.places.len() {
+            match self.input.places[number] {
+                Place::Sub(of, owner, _) if (of, owner) == (batch, payment) => {
+                    let usual = unprintable(random);
+                    self.record(number)[at] = random.rarely(30, random.pick(b"?o "), usual);
+                }
+                place if place == detail => self.record(number)[at] = unprintable(random),
+                _ => {}
+            }
+        }
+    }
+
     fn change(&mut self, at: Place, change: Change, random: &Random) {
         let Some(index) = self.find(at) else { return };
         let start = index * RECORD;
@@ -298,6 +373,17 @@ impl Target<'_> {
                 self.join_ids(at);
             }
             Change::AnyBytes => (0..random.between(1, 4)).for_each(|_| self.record(index)[random.index(RECORD)] = random.byte(0, 255)),
+            Change::Unprintable | Change::UnprintableFiller => unprintable_byte(self.record(index), change, random),
+            Change::UnprintableId => self.mark_ids(at, 2 + random.index(20), random),
+            Change::UnprintableRepeat => {
+                let Place::Detail(batch, payment) = at else { return };
+                let (earlier, byte) = (Place::Detail(batch, random.index(payment.max(1))), 2 + random.index(20));
+                let Some(source) = self.find(earlier) else { return };
+                let id = of(self.record(source), 23).to_vec();
+                set(self.record(index), 23, &id);
+                self.join_ids(at);
+                [earlier, at].into_iter().for_each(|detail| self.mark_ids(detail, byte, random));
+            }
         }
     }
 
@@ -333,4 +419,14 @@ fn low_byte(record: &mut [u8], change: Change, random: &Random) {
         _ => field.start + random.index(field.len()),
     };
     record[at] = random.pick(&[0x00, 0x3F, 0x3F, random.byte(0, 0x3F)]);
+}
+
+fn unprintable_byte(record: &mut [u8], change: Change, random: &Random) {
+    let code = [record[0], record[1]].map(to_ebcdic);
+    let in_filler = matches!(change, Change::UnprintableFiller);
+    let fields: Vec<_> = fields_of(code_of(&code))
+        .filter(|field| FILLERS.contains(field) == in_filler)
+        .collect();
+    let field = place(random.pick(&fields));
+    record[field.start + random.index(field.len())] = unprintable(random);
 }

@@ -4,15 +4,18 @@ pub mod book;
 pub mod damage;
 pub mod fields;
 pub mod record;
+pub mod sender;
 pub mod sound;
 
 use std::collections::HashSet;
 use std::fmt::Write;
 
+use crate::ascii::ASCII_FH;
 use crate::layout::{FIELDS, RECORD};
 use crate::random::{mix, Random};
 use book::{random_book, write_damaged, Book, BookDamage, BETC, LARGEST};
 use damage::{Damage, Planned, Target, When};
+use sender::{printable, turn, Sender, CAREFUL};
 use sound::{Batch, Place, Style, Writer};
 
 /// What may be left out of a recipe; a header stands for its batch, a detail for its payment.
@@ -20,11 +23,14 @@ use sound::{Batch, Place, Style, Writer};
 pub enum Piece {
     Damage(usize),
     Record(Place),
+    /// What turns the file into ASCII.
+    Ascii,
 }
 
 /// All that is drawn for one input.
 pub struct Recipe {
     seed: u64,
+    sender: Sender,
     style: Style,
     batches: Vec<Batch>,
     damages: Vec<Planned>,
@@ -43,8 +49,9 @@ pub struct Input {
     places: Vec<Place>,
 }
 
-/// Inputs about the limits of 65,535 records and 16,777,216 bytes of book: last four bits of the seed, index modulo 20,000.
-const LARGE: [(u64, u64); 4] = [(1, 777), (2, 5_555), (3, 10_777), (4, 15_555)];
+/// Inputs about the limits of 65,535 records and 16,777,216 bytes of book: last four bits of the seed, index modulo 20,000. The last two
+/// are in ASCII.
+const LARGE: [(u64, u64); 6] = [(1, 777), (2, 5_555), (3, 10_777), (4, 15_555), (5, 3_777), (6, 13_777)];
 
 /// The seed of input `index`.
 pub fn input_seed(seed: u64, index: u64) -> u64 {
@@ -57,19 +64,19 @@ impl Recipe {
         let random = &Random::new(mix(seed));
         let large = seed % 16;
         let (batches, large_book) = match large {
-            1 => (vec![sound::plan_many_parties(65_535, random)], None),
-            3 => (vec![sound::plan_many_parties(65_536 + random.index(2), random)], None),
+            1 | 5 => (vec![sound::plan_many_parties(65_535, random)], None),
+            3 | 6 => (vec![sound::plan_many_parties(65_536 + random.index(2), random)], None),
             2 => (sound::plan(random), Some(LARGEST)),
             4 => (sound::plan(random), Some(LARGEST + 1)),
             _ => (sound::plan(random), None),
         };
         let style = Style::new(&batches, random);
-        let damages = match large {
+        let mut damages = match large {
             0 => damage::plan(&batches, random),
-            3 => vec![damage::plan_before_limit(random)],
+            3 | 6 => vec![damage::plan_before_limit(random)],
             _ => Vec::new(),
         };
-        let bytes = random.pick(&[0, 1, 849, RECORD, 851, 2 * RECORD, random.index(3_000)]);
+        let bytes = random.pick(&[0, 1, 2, 849, RECORD, 851, 2 * RECORD, random.index(3_000)]);
         let any_bytes = random.chance(250).then_some(bytes);
         let report_beside = match random.below(24) {
             0 => -1,
@@ -78,8 +85,17 @@ impl Recipe {
             10 => 4_096,
             _ => random.index(200) as isize,
         };
+        let sender = match large {
+            0 => Sender::new(random),
+            5 | 6 => CAREFUL,
+            _ => Sender::Ebcdic,
+        };
+        if large == 0 {
+            damages.extend(damage::plan_in_ascii(&batches, sender, random));
+        }
         Recipe {
             seed,
+            sender,
             style,
             batches,
             damages,
@@ -99,6 +115,7 @@ impl Recipe {
             }
         }
         pieces.extend(records.into_iter().map(Piece::Record));
+        pieces.extend((self.sender != Sender::Ebcdic).then_some(Piece::Ascii));
         pieces
     }
 
@@ -110,6 +127,9 @@ impl Recipe {
         let mut book = random_book(random);
         if self.batches.iter().any(|batch| batch.kinds.is_some()) {
             book.add_beside(BETC, random);
+        }
+        if self.sender.is_printable() {
+            book.make_printable();
         }
         self.make_file(&book, dropped, random, input);
         input.book.clear();
@@ -129,12 +149,16 @@ impl Recipe {
             style,
             book,
             dropped,
+            printable: self.sender.is_printable(),
             input,
         }
         .write(&self.batches, random);
-        for when in [When::BeforeTotals, When::AfterTotals, When::AtTheEnd] {
+        for when in [When::BeforeTotals, When::AfterTotals, When::InAscii, When::AtTheEnd] {
             if when == When::AfterTotals {
                 record::finish(&mut input.file);
+            }
+            if self.sender.turns_before(when) {
+                self.turn(dropped, &mut input.file);
             }
             let damages = self.kept(dropped).filter(|planned| planned.when == when);
             damages.for_each(|planned| Target { input, book }.apply(planned));
@@ -142,6 +166,18 @@ impl Recipe {
         if let Some(length) = self.any_bytes {
             input.file.resize(length, 0);
             random.fill(&mut input.file);
+            if self.sender != Sender::Ebcdic && !dropped.contains(&Piece::Ascii) {
+                input.file.iter_mut().zip(ASCII_FH).for_each(|(byte, start)| *byte = start);
+            }
+        }
+    }
+
+    fn turn(&self, dropped: &HashSet<Piece>, file: &mut [u8]) {
+        if self.sender.is_printable() {
+            file.iter_mut().for_each(|byte| *byte = printable(*byte));
+        }
+        if !dropped.contains(&Piece::Ascii) {
+            turn(file, &Random::new(mix(!self.seed)));
         }
     }
 
@@ -162,7 +198,12 @@ impl Recipe {
     pub fn describe(&self, dropped: &HashSet<Piece>) -> String {
         let (bytes, book, beside) = (self.any_bytes, self.large_book, self.report_beside);
         let mut text = format!("any bytes instead: {bytes:?}, large book: {book:?}, report beside what is asked: {beside}\n");
-        let _ = writeln!(text, "{:?}", self.style);
+        let sender = if dropped.contains(&Piece::Ascii) {
+            Sender::Ebcdic
+        } else {
+            self.sender
+        };
+        let _ = writeln!(text, "{sender:?}, {:?}", self.style);
         let stays = |place| !dropped.contains(&Piece::Record(place));
         let batches = self.batches.iter().enumerate();
         for (batch, plan) in batches.filter(|(batch, _)| stays(Place::Header(*batch))) {

@@ -6,6 +6,7 @@ use super::book::{Book, BETC, LOCATIONS};
 use super::fields::{set_code, set_sound, ALL, BATCH_RULES, FILE_RULES};
 use super::record::{add_noise, add_record, ebcdic, fields_of, set, set_number, set_text, write_number, BLANK, MOST};
 use super::{Input, Piece};
+use crate::ascii::CODE_PAGE_037;
 use crate::layout::place;
 use crate::random::{mix, Random};
 
@@ -275,12 +276,14 @@ struct Accounts<'a> {
     fields: [u8; 24],
     two_bytes: Option<[usize; 2]>,
     first_byte: usize,
+    /// The two bytes are of characters that ASCII has (02 W2).
+    printable: bool,
     codes: Vec<Betc<'a>>,
 }
 
 impl<'a> Accounts<'a> {
     /// Now and then one kind is all blank, if it may be.
-    fn new(batch: &Batch, kinds: Kinds, book: &'a Book) -> Accounts<'a> {
+    fn new(batch: &Batch, kinds: Kinds, book: &'a Book, printable: bool) -> Accounts<'a> {
         let seed = mix(batch.seed);
         let random = &Random::new(seed);
         let reporter = batch.payments.iter().any(|payment| payment.reporter);
@@ -308,6 +311,7 @@ impl<'a> Accounts<'a> {
             fields,
             two_bytes,
             first_byte: random.pick(&[0, 0, 1, 160, random.index(192)]),
+            printable,
             codes,
         }
     }
@@ -318,7 +322,10 @@ impl<'a> Accounts<'a> {
         let (rest, mut fields) = (kind / self.codes.len(), self.fields);
         match self.two_bytes {
             Some([one, other]) => {
-                let text = |digit| BLANK + ((self.first_byte + digit) % 192) as u8;
+                let text = |digit| match self.printable {
+                    true => CODE_PAGE_037[(self.first_byte + digit) % 95],
+                    false => BLANK + ((self.first_byte + digit) % 192) as u8,
+                };
                 fields[one] = text(rest % 32);
                 fields[other] = text(rest / 32);
             }
@@ -352,6 +359,8 @@ pub struct Writer<'a> {
     pub style: &'a Style,
     pub book: &'a Book,
     pub dropped: &'a HashSet<Piece>,
+    /// 02 W2: text is to be of characters that ASCII has.
+    pub printable: bool,
     pub input: &'a mut Input,
 }
 
@@ -393,7 +402,7 @@ impl<'a> Writer<'a> {
         let last = 100_000_000 - batch.payments.len() as u64;
         let first_serial = random.rarely(5, random.pick(&[last, last, last + 1, 0]), random.below(last));
         self.header(number, batch, u128::from(symbol), u128::from(first_serial), random);
-        let accounts = batch.kinds.map(|kinds| Accounts::new(batch, kinds, self.book));
+        let accounts = batch.kinds.map(|kinds| Accounts::new(batch, kinds, self.book, self.printable));
         let (mut serial, mut tas) = (first_serial, 0);
         for (payment, plan) in batch.payments.iter().enumerate() {
             let first_tas = tas;

@@ -10,7 +10,9 @@ use lib.Dec.{ltb}
 use lib.ListN.{length, take, drop, getD}
 use lib.Seq.{take-at, length-take-le}
 use Rattle.record.specs.Choice.{_and_, _or_, choose}
+use Rattle.page.specs.CodePage.{shown}
 use Rattle.record.specs.Value.{seen}
+use Rattle.page.proofs.Shown.{shown-take}
 use Rattle.book.specs.Book.{Contents}
 use Rattle.nesting.specs.Division.{Record, Batch, paymentsOnto, batchLines}
 use Rattle.nesting.specs.Records.{lineOf, cut}
@@ -138,17 +140,21 @@ pub nowhere-is : (r : Repeat) → r ≡ Nowhere → false ≡ isSomewhere r
 unfolding isSomewhere
 nowhere-is r e = rw e
 
-module _ (n records : ℕ) (rest : List ℕ) where
+module _ (ascii : Bool) (n records : ℕ) (sent : List ℕ) where
   -- in the bytes of the batch, as the code takes them
-  pub repeat-in : (r : Repeat) → r ≡ firstIn n (take (records * 850 - 0) (drop 0 rest)) → r ≡ firstIn n (partOf rest records)
-  repeat-in r e =
-      let m : records * 850 - 0 ≡ records * 850 = omega arith in
-      rw (← m) e
+  abbrev taken : List ℕ
+  taken = shown ascii (take (records * 850 - 0) (drop 0 sent))
 
-  pub crowd-in : (x : Bool) → x ≡ crowdedIn n (take (records * 850 - 0) (drop 0 rest)) → x ≡ crowdedIn n (partOf rest records)
-  crowd-in x e =
+  taken-is : taken ≡ partOf (shown ascii sent) records
+  taken-is =
       let m : records * 850 - 0 ≡ records * 850 = omega arith in
-      rw (← m) e
+      rw m (shown-take ascii (records * 850) sent)
+
+  pub repeat-in : (r : Repeat) → r ≡ firstIn n taken → r ≡ firstIn n (partOf (shown ascii sent) records)
+  repeat-in r e = e ∙ ap (λ (xs : List ℕ). firstIn n xs) taken-is
+
+  pub crowd-in : (x : Bool) → x ≡ crowdedIn n taken → x ≡ crowdedIn n (partOf (shown ascii sent) records)
+  crowd-in x e = e ∙ ap (λ (xs : List ℕ). crowdedIn n xs) taken-is
 
 module _ (told : Told) (n records : ℕ) (rest : List ℕ) (falls : Bool) (accounts : ℕ) (t : Bool) (e : t ≡ isTold told) where
   pub seek-told : t ≡ true → record { told = told; again = false } ≡ sought told (learnt falls accounts n (partOf rest records))

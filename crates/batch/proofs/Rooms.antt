@@ -7,10 +7,10 @@ use Prim.Native.Nat.{ℕ, _+_, _^_, _<_, _≤_}
 use native.Mathlib.Omega.{arith}
 use lib.ListN.{length}
 use Rattle.record.specs.declared.Field.{Field}
-use Rattle.record.specs.declared.Line.{Line}
 use Rattle.record.specs.Choice.{choose}
 use Rattle.record.specs.Fields.{checkFirstSerialNumber}
-use Rattle.record.specs.Value.{Has, seen, held}
+use Rattle.page.specs.CodePage.{shown}
+use Rattle.record.specs.Value.{Has, held}
 use Rattle.record.specs.Tests.{digits}
 use Rattle.record.specs.Numeral.{numeral}
 use Rattle.record.proofs.Held.{held-length}
@@ -32,8 +32,8 @@ use Rattle.batch.specs.Walk.{Small, Own, Room, contextOf, payingContext,
 pub small-cents : (xs : List ℕ) → length xs ≤ 20 → Small 1 (split (cents xs))
 small-cents xs n = record { whole = split-whole (cents xs); worth = rw (worth-split (cents xs)) (omega (arith, cents-below xs n)) }
 
-pub small-read : (a : Amount) (line : Line) (rec : List ℕ) (f : Field) → Has rec f → f .width ≡ 20 → a ≡ split (cents (held (seen line rec) f)) → Small 1 a
-small-read a line rec f h w e = rw e (small-cents (held (seen line rec) f) (omega (arith, held-length line rec f h, w)))
+pub small-read : (a : Amount) (ascii : Bool) (rec : List ℕ) (f : Field) → Has rec f → f .width ≡ 20 → a ≡ split (cents (held (shown ascii rec) f)) → Small 1 a
+small-read a ascii rec f h w e = rw e (small-cents (held (shown ascii rec) f) (omega (arith, held-length ascii rec f h, w)))
 
 -- an amount so far, and one more
 pub fit-small : (n : ℕ) (a b : Amount) → n ≤ 65535 → Small n a → Small 1 b → Fit a b
@@ -60,22 +60,22 @@ own-later n m o h s =
     }
 
 -- what a header's serial number can be
-pub serial-below : (line : Line) (rec : List ℕ) → length rec ≡ 850 → firstSerial (seen line rec) < 100000000
+pub serial-below : (ascii : Bool) (rec : List ℕ) → length rec ≡ 850 → firstSerial (shown ascii rec) < 100000000
 unfolding firstSerial choose
-serial-below line rec e = go (digits (held (seen line rec) checkFirstSerialNumber)) refl
+serial-below ascii rec e = go (digits (held (shown ascii rec) checkFirstSerialNumber)) refl
   where
-    go : (b : Bool) → digits (held (seen line rec) checkFirstSerialNumber) ≡ b → choose (digits (held (seen line rec) checkFirstSerialNumber)) (numeral (held (seen line rec) checkFirstSerialNumber)) 0 < 100000000
+    go : (b : Bool) → digits (held (shown ascii rec) checkFirstSerialNumber) ≡ b → choose (digits (held (shown ascii rec) checkFirstSerialNumber)) (numeral (held (shown ascii rec) checkFirstSerialNumber)) 0 < 100000000
     go true d =
-        let n : length (held (seen line rec) checkFirstSerialNumber) ≡ 8 = held-length line rec checkFirstSerialNumber (omega arith, omega arith) in
-        rw d (omega (arith, rw n at (numeral-below (held (seen line rec) checkFirstSerialNumber) d)))
+        let n : length (held (shown ascii rec) checkFirstSerialNumber) ≡ 8 = held-length ascii rec checkFirstSerialNumber (omega arith, omega arith) in
+        rw d (omega (arith, rw n at (numeral-below (held (shown ascii rec) checkFirstSerialNumber) d)))
     go false d = rw d (omega arith)
 
 -- what the header's rules know
-pub kept-header : (book : Contents) (n : ℕ) (line : Line) (rec : List ℕ) (h : Header) (repeats crowded : Bool) (codes : Codes) (k : ℕ) → k < 65536 → length rec ≡ 850 → h ≡ head book crowded n (seen line rec)
+pub kept-header : (book : Contents) (n : ℕ) (ascii : Bool) (rec : List ℕ) (h : Header) (repeats crowded : Bool) (codes : Codes) (k : ℕ) → k < 65536 → length rec ≡ 850 → h ≡ head book crowded n (shown ascii rec)
     → Kept (record { repeats = repeats; reporter = false; codes = codes; symbol = h .symbol; serial = h .serial; payments = k; total = record { high = 0; low = 0 } })
 unfolding head Whole
-kept-header book n line rec h repeats crowded codes k few l e =
-    record { serial = rw e (serial-below line rec l); payments = few; total = omega arith }
+kept-header book n ascii rec h repeats crowded codes k few l e =
+    record { serial = rw e (serial-below ascii rec l); payments = few; total = omega arith }
 
 module _ (n : ℕ) (s : State) (r : Room n s) (h : n ≤ 65535) where
   pub own-room : Own 65535 (s .payment)

@@ -7,21 +7,22 @@ use Prim.Native.Nat.{ℕ, suc, _+_, _-_, _*_, _/_, _<_, _≤_}
 use native.Mathlib.Omega.{arith}
 use lib.ListN.{length, take, drop, length-take}
 use Rattle.record.specs.declared.Field.{Field}
-use Rattle.record.specs.declared.Line.{Line}
 use Rattle.record.specs.declared.codes.Code.{Code}
 use Rattle.record.specs.declared.codes.Code.the-variants as code
 use Rattle.record.specs.Fields.{amount, accountAmount, procurementAmount}
-use Rattle.record.specs.Value.{Has, seen, held}
+use Rattle.page.specs.CodePage.{shown}
+use Rattle.record.specs.Value.{Has, held}
 use Rattle.record.specs.Choice.{choose}
 use Rattle.record.specs.Codes.{codeOf, isTrailer}
+use Rattle.page.proofs.Shown.{shown-length}
 use Rattle.record.proofs.Held.{held-length}
 use Rattle.money.specs.Money as money
 use Rattle.money.specs.Money.{worth, split, cents}
 use Rattle.money.proofs.Amounts.{worth-split, split-whole, cents-below}
 use Rattle.book.specs.Book.{Contents}
 use Rattle.nesting.specs.Division.{Record}
-use Rattle.nesting.specs.Records.{lineOf, cut}
-use Rattle.nesting.proofs.Cuts.{bytesFrom, from-length, recordFrom, cut-next}
+use Rattle.nesting.specs.Records.{cut}
+use Rattle.nesting.proofs.Cuts.{bytesFrom, from-length, recordFrom, from-seen, cut-next}
 use Rattle.repeats.specs.declared.climb.Climbing.{Climbing}
 use Rattle.repeats.specs.Climb.{climbed, climbedBy}
 use Rattle.rules.specs.declared.Context.{Context}
@@ -91,22 +92,22 @@ own-procurement n m o bare h s =
     }
 
 -- the record as the rules see it
-module _ (line : Line) (rec : List ℕ) (l : length rec ≡ 850) where
+module _ (ascii : Bool) (rec : List ℕ) (l : length rec ≡ 850) where
   -- its amounts
-  wide : (f : Field) → Has rec f → f .width ≡ 20 → length (held (seen line rec) f) ≤ 20
-  wide f h w = omega (arith, held-length line rec f h, w)
+  wide : (f : Field) → Has rec f → f .width ≡ 20 → length (held (shown ascii rec) f) ≤ 20
+  wide f h w = omega (arith, held-length ascii rec f h, w)
 
-  below : (f : Field) → Has rec f → f .width ≡ 20 → cents (held (seen line rec) f) < 100000000000000000000
-  below f h w = cents-below (held (seen line rec) f) (wide f h w)
+  below : (f : Field) → Has rec f → f .width ≡ 20 → cents (held (shown ascii rec) f) < 100000000000000000000
+  below f h w = cents-below (held (shown ascii rec) f) (wide f h w)
 
   -- after a header there is room
-  pub room-opening : (book : Contents) (repeats crowded : Bool) (n m : ℕ) → Room (n + 1) (opening book repeats crowded m (seen line rec))
+  pub room-opening : (book : Contents) (repeats crowded : Bool) (n m : ℕ) → Room (n + 1) (opening book repeats crowded m (shown ascii rec))
   unfolding opening opened head
   room-opening book repeats crowded n m =
       record {
         payment =
             record {
-              context = record { serial = serial-below line rec l; payments = omega arith; total = split-whole 0 };
+              context = record { serial = serial-below ascii rec l; payments = omega arith; total = split-whole 0 };
               amount = record { whole = split-whole 0; worth = rw (worth-split 0) (omega arith) };
               accounts = omega arith;
               positive = split-whole 0;
@@ -115,7 +116,7 @@ module _ (line : Line) (rec : List ℕ) (l : length rec ≡ 850) where
               procurements = omega arith;
               procured = record { whole = split-whole 0; worth = rw (worth-split 0) (omega arith) };
             };
-        serial = serial-below line rec l;
+        serial = serial-below ascii rec l;
         declared = split-whole _;
         payments = omega arith;
         total = record { whole = split-whole 0; worth = rw (worth-split 0) (omega arith) };
@@ -135,7 +136,7 @@ module _ (line : Line) (rec : List ℕ) (l : length rec ≡ 850) where
           accounts = omega (arith, r .accounts);
         }
 
-    pub room-step : (c : Code) (repeats : Bool) → n ≤ 65535 → Room (n + 1) (stepOf book c s n (seen line rec) repeats)
+    pub room-step : (c : Code) (repeats : Bool) → n ≤ 65535 → Room (n + 1) (stepOf book c s n (shown ascii rec) repeats)
     unfolding stepOf detailed partied accounted procured trailed knowing
     room-step code.FileHeader repeats h = room-later
     room-step (code.Batch m) repeats h = room-later
@@ -198,67 +199,74 @@ module _ (book : Contents) (told : Told) (n : ℕ) (w : Walked) where
 unfoldable pub Roomy : ℕ → State → Type 0
 Roomy n s = Room n s
 
+-- the first record among the bytes that were sent
+pub first-sent : (ascii : Bool) (sent : List ℕ) (n : ℕ) → Judgeable n (shown ascii sent) → 850 ≤ length sent
+first-sent ascii sent n j = omega (arith, first-record j, shown-length ascii sent)
+
 -- so many records have been walked, up to `at`, and no BT behind the header: the walk over the others is the walk over all
-pub record Walking (book : Contents) (rest : List ℕ) (first : ℕ) (repeats : Bool) (told : Told) (w : Walked) (at : ℕ) : Type 0 where
-  pub judgeable : Judgeable first rest
+pub record Walking (book : Contents) (ascii : Bool) (sent : List ℕ) (first : ℕ) (repeats : Bool) (told : Told) (w : Walked) (at : ℕ) : Type 0 where
+  pub judgeable : Judgeable first (shown ascii sent)
   pub place : at ≡ w .records * 850
   pub some : 1 ≤ w .records
-  pub within : at ≤ length rest
+  pub within : at ≤ length (shown ascii sent)
   pub room : Roomy (first + w .records) (w .state)
-  pub left : walkOf book repeats told first rest ≡ walkedOver book told (first + w .records) w (toTrailer (cut (first + w .records) (length rest / 850 - w .records) (drop at rest)))
+  pub left : walkOf book repeats told first (shown ascii sent) ≡ walkedOver book told (first + w .records) w (toTrailer (cut (first + w .records) (length (shown ascii sent) / 850 - w .records) (drop at (shown ascii sent))))
 
-module _ {book : Contents} {rest : List ℕ} {first : ℕ} {repeats : Bool} {told : Told} where
-  pub begun : {s : State} → Judgeable first rest → s ≡ opening book repeats (told .crowded) first (seen (lineOf first) (take 850 rest))
-      → Walking book rest first repeats told (record { state = s; climbing = noClimb; records = 1 }) 850
+module _ {book : Contents} {ascii : Bool} {sent : List ℕ} {first : ℕ} {repeats : Bool} {told : Told} where
+  begun : {s : State} → Judgeable first (shown ascii sent) → s ≡ opening book repeats (told .crowded) first (shown ascii (take 850 sent))
+      → Walking book ascii sent first repeats told (record { state = s; climbing = noClimb; records = 1 }) 850
   unfolding walkOf Roomy
   begun j e =
       let h = first-record j in
-      let l : length (take 850 rest) ≡ 850 = simp length-take (omega arith) in
+      let l : length (take 850 sent) ≡ 850 = simp length-take (omega (arith, first-sent ascii sent first j)) in
       rw e
       (record {
         judgeable = j;
         place = refl;
         some = omega arith;
         within = h;
-        room = room-opening (lineOf first) (take 850 rest) l book repeats (told .crowded) first first;
-        left = refl;
+        room = room-opening ascii (take 850 sent) l book repeats (told .crowded) first first;
+        left = rw (← from-seen ascii sent first 0);
       })
 
-  module _ {w : Walked} {at : ℕ} (i : Walking book rest first repeats told w at) where
+  module _ {w : Walked} {at : ℕ} (i : Walking book ascii sent first repeats told w at) where
     -- the record that begins at `at`
     abbrev here : Record
-    here = recordFrom rest (first + w .records) at
+    here = recordFrom ascii sent at
 
     pub room-here : Room (first + w .records) (w .state)
     unfolding Roomy
     room-here = i .room
 
-    module _ (h : at < length rest) where
+    module _ (h : at < length sent) where
       -- its end, its number, its bytes
-      pub end-within : at + 850 ≤ length rest
-      end-within = omega (arith, i .judgeable .whole, i .place)
+      end-seen : at + 850 ≤ length (shown ascii sent)
+      end-seen = omega (arith, i .judgeable .whole, i .place, shown-length ascii sent)
+
+      pub end-within : at + 850 ≤ length sent
+      end-within = omega (arith, end-seen, shown-length ascii sent)
 
       pub end-few : at + 850 ≤ 55705600
-      end-few = omega (arith, i .judgeable .few, end-within)
+      end-few = omega (arith, i .judgeable .few, end-seen)
 
       pub number-few : first + w .records ≤ 65535
-      number-few = omega (arith, i .judgeable .few, end-within, i .place)
+      number-few = omega (arith, i .judgeable .few, end-seen, i .place)
 
       pub records-few : w .records ≤ 65535
       records-few = omega (arith, number-few)
 
-      pub here-length : length (bytesFrom rest at) ≡ 850
-      here-length = from-length rest at end-within
+      pub here-length : length (bytesFrom sent at) ≡ 850
+      here-length = from-length sent at end-within
 
-      left-next : cut (first + w .records) (length rest / 850 - w .records) (drop at rest)
-          ≡ here ∷ cut (first + w .records + 1) (length rest / 850 - (w .records + 1)) (drop (at + 850) rest)
+      left-next : cut (first + w .records) (length (shown ascii sent) / 850 - w .records) (drop at (shown ascii sent))
+          ≡ here ∷ cut (first + w .records + 1) (length (shown ascii sent) / 850 - (w .records + 1)) (drop (at + 850) (shown ascii sent))
       left-next =
-          let e : length rest / 850 - w .records ≡ suc (length rest / 850 - (w .records + 1)) = omega (arith, end-within, i .place) in
-          rw e (cut-next rest (first + w .records) at (length rest / 850 - (w .records + 1)))
+          let e : length (shown ascii sent) / 850 - w .records ≡ suc (length (shown ascii sent) / 850 - (w .records + 1)) = omega (arith, end-seen, i .place) in
+          rw e (cut-next ascii sent (first + w .records) at (length (shown ascii sent) / 850 - (w .records + 1)))
 
       -- it is a BT, or none, by its code
       module _ {t : Walked} {k : Code} {x marked : Bool} (g : marked ≡ isAt (told .repeat) (first + w .records)) (e : t ≡ taken book (first + w .records) w here marked) (o : k ≡ codeOf here) (z : x ≡ isTrailer k) where
-        pub turned : x ≡ false → Walking book rest first repeats told t (at + 850)
+        pub turned : x ≡ false → Walking book ascii sent first repeats told t (at + 850)
         unfolding taken toTrailer choose Roomy
         turned f =
             let m : first + (w .records + 1) ≡ first + w .records + 1 = omega arith in
@@ -268,21 +276,21 @@ module _ {book : Contents} {rest : List ℕ} {first : ℕ} {repeats : Bool} {tol
               judgeable = i .judgeable;
               place = omega (arith, i .place);
               some = omega arith;
-              within = end-within;
-              room = rw m (room-step (lineOf (first + w .records)) (bytesFrom rest at) here-length book (first + w .records) (w .state) room-here (codeOf here) _ number-few);
+              within = end-seen;
+              room = rw m (room-step ascii (bytesFrom sent at) here-length book (first + w .records) (w .state) room-here (codeOf here) _ number-few);
               left = rw m (i .left ∙ rw (left-next, p) (over-next book told (first + w .records) w here _));
             })
 
-        pub ended : x ≡ true → t ≡ walkOf book repeats told first rest
+        pub ended : x ≡ true → t ≡ walkOf book repeats told first (shown ascii sent)
         unfolding toTrailer choose
         ended f =
             let p : isTrailer (codeOf here) ≡ true = ap isTrailer (sym o) ∙ sym z ∙ f in
             sym (i .left ∙ rw (left-next, p, e, g) (over-next book told (first + w .records) w here [] ∙ over-none book told _ _))
 
-    pub finished : length rest ≤ at → w ≡ walkOf book repeats told first rest
+    pub finished : length (shown ascii sent) ≤ at → w ≡ walkOf book repeats told first (shown ascii sent)
     unfolding toTrailer cut
     finished h =
-        let e : length rest / 850 - w .records ≡ 0 = omega (arith, i .place) in
+        let e : length (shown ascii sent) / 850 - w .records ≡ 0 = omega (arith, i .place) in
         sym (i .left ∙ rw e (over-none book told _ w))
 
 -- where the walk stops after a record, by its code
@@ -295,25 +303,26 @@ unfolding choose
 goes-on k end stop x e f = rw (← e, f)
 
 -- the walk goes on while a record is left, or has stopped behind the BT
-pub record Passing (book : Contents) (rest : List ℕ) (first : ℕ) (repeats : Bool) (told : Told) (w : Walked) (at stop : ℕ) : Type 0 where
-  pub going : at < stop → Walking book rest first repeats told w at
-  pub whole : at < stop → stop ≡ length rest
-  pub done : stop ≤ at → w ≡ walkOf book repeats told first rest
+pub record Passing (book : Contents) (ascii : Bool) (sent : List ℕ) (first : ℕ) (repeats : Bool) (told : Told) (w : Walked) (at stop : ℕ) : Type 0 where
+  pub going : at < stop → Walking book ascii sent first repeats told w at
+  pub whole : at < stop → stop ≡ length (shown ascii sent)
+  pub done : stop ≤ at → w ≡ walkOf book repeats told first (shown ascii sent)
 
-module _ {book : Contents} {rest : List ℕ} {first : ℕ} {repeats : Bool} {told : Told} where
-  pub passing-begun : {s : State} → Judgeable first rest → s ≡ opening book repeats (told .crowded) first (seen (lineOf first) (take 850 rest))
-      → Passing book rest first repeats told (record { state = s; climbing = noClimb; records = 1 }) 850 (length rest)
+module _ {book : Contents} {ascii : Bool} {sent : List ℕ} {first : ℕ} {repeats : Bool} {told : Told} where
+  pub passing-begun : {s : State} → Judgeable first (shown ascii sent) → s ≡ opening book repeats (told .crowded) first (shown ascii (take 850 sent))
+      → Passing book ascii sent first repeats told (record { state = s; climbing = noClimb; records = 1 }) 850 (length sent)
   passing-begun j e =
-      let w : Walking book rest first repeats told _ 850 = begun j e in
-      record { going = λ h. w; whole = λ h. refl; done = λ h. finished w h }
+      let n = shown-length ascii sent in
+      let w : Walking book ascii sent first repeats told _ 850 = begun j e in
+      record { going = λ h. w; whole = λ h. sym n; done = λ h. finished w (omega (arith, n)) }
 
-  module _ {w : Walked} {at stop : ℕ} (p : Passing book rest first repeats told w at stop) (h : at < stop) where
+  module _ {w : Walked} {at stop : ℕ} (p : Passing book ascii sent first repeats told w at stop) (h : at < stop) where
     -- the record at the place
-    pub walking : Walking book rest first repeats told w at
+    pub walking : Walking book ascii sent first repeats told w at
     walking = p .going h
 
-    pub left : at < length rest
-    left = omega (arith, p .whole h)
+    pub left : at < length sent
+    left = omega (arith, p .whole h, shown-length ascii sent)
 
     module _ (k : Code) {stop' : ℕ} (z : stop' ≡ choose (isTrailer k) (at + 850) stop) where
       pub passing-less : stop' - (at + 850) < stop - at
@@ -324,14 +333,14 @@ module _ {book : Contents} {rest : List ℕ} {first : ℕ} {repeats : Bool} {tol
           go true f = let e : stop' ≡ at + 850 = rw f at z in omega arith
           go false f = let e : stop' ≡ stop = rw f at z in omega arith
 
-      pub passing-next : {s : State} {c : Climbing} {marked : Bool} → marked ≡ isAt (told .repeat) (first + w .records) → k ≡ codeOf (recordFrom rest (first + w .records) at)
-          → s ≡ stepOf book (codeOf (recordFrom rest (first + w .records) at)) (w .state) (first + w .records) (recordFrom rest (first + w .records) at) marked
-          → c ≡ climbed (recordFrom rest (first + w .records) at) (w .climbing)
-          → Passing book rest first repeats told (record { state = s; climbing = c; records = w .records + 1 }) (at + 850) stop'
+      pub passing-next : {s : State} {c : Climbing} {marked : Bool} → marked ≡ isAt (told .repeat) (first + w .records) → k ≡ codeOf (recordFrom ascii sent at)
+          → s ≡ stepOf book (codeOf (recordFrom ascii sent at)) (w .state) (first + w .records) (recordFrom ascii sent at) marked
+          → c ≡ climbed (recordFrom ascii sent at) (w .climbing)
+          → Passing book ascii sent first repeats told (record { state = s; climbing = c; records = w .records + 1 }) (at + 850) stop'
       unfolding choose
       passing-next {s} {c} {marked} g o e q = go (isTrailer k) refl
         where
-          go : (x : Bool) → isTrailer k ≡ x → Passing book rest first repeats told (record { state = s; climbing = c; records = w .records + 1 }) (at + 850) stop'
+          go : (x : Bool) → isTrailer k ≡ x → Passing book ascii sent first repeats told (record { state = s; climbing = c; records = w .records + 1 }) (at + 850) stop'
           go true f =
               let y : stop' ≡ at + 850 = rw f at z in
               record {

@@ -9,12 +9,14 @@ use money::Amount;
 use pass::Told;
 use pass::Walked;
 use reasons::Finding;
+use record::Line;
 use repeats::Repeat;
 ghost use mathlib.Core.Path.{_≡_};
 ghost use Prim.Native.Nat.{_*_, _≤_};
 ghost use lib.Dec.{ltb};
 ghost use lib.ListN.{length, take};
 ghost use Rattle.record.specs.Choice.{_and_};
+ghost use Rattle.record.specs.Value.{seen};
 ghost use Rattle.book.specs.Book.{Usable, listedAt};
 ghost use Rattle.batch.specs.Batch.{Judgeable, IsRow};
 ghost use Rattle.batch.specs.Walk.{isSomewhere, crowdedIn, isTold, learnt, sought, rowAt};
@@ -74,9 +76,9 @@ fn is_told(told: Told) -> bool
 }
 
 // Whether the DT of the batch have too many kinds. At most 1,000 DT have no more kinds, and are not counted.
-fn has_crowd(rest: &[u8], first: usize, records: usize, accounts: usize) -> bool
-    requires { ⌜ (records * 850 ≤ length (now rest)) × (length (now rest) ≤ 65535 * 850) × (first ≤ 65536) ⌝ }
-    ensures { λ r. ⌜ r ≡ (ltb 1000 accounts and crowdedIn first (take (records * 850) (now (rest .entry)))) ⌝ }
+fn has_crowd(rest: &[u8], first: Line, records: usize, accounts: usize) -> bool
+    requires { ⌜ (records * 850 ≤ length (now rest)) × (length (now rest) ≤ 65535 * 850) × (first .number ≤ 65536) ⌝ }
+    ensures { λ r. ⌜ r ≡ (ltb 1000 accounts and crowdedIn (first .number) (take (records * 850) (seen first (now (rest .entry))))) ⌝ }
 {
     if accounts <= kinds::MOST {
         return false;
@@ -98,14 +100,14 @@ fn tell(repeat: Repeat, crowded: bool) -> Seeking
 // falls, the first repeat is sought. Kinds are asked for at two places, so that their table has a frame of its own.
 fn seek(
     rest: &[u8],
-    first: usize,
+    first: Line,
     records: usize,
     falls: bool,
     accounts: usize,
     told: Told,
 ) -> Seeking
-    requires { ⌜ (records * 850 ≤ length (now rest)) × (length (now rest) ≤ 65535 * 850) × (first ≤ 65536) ⌝ }
-    ensures { λ r. ⌜ r ≡ sought told (learnt falls accounts first (take (records * 850) (now (rest .entry)))) ⌝ }
+    requires { ⌜ (records * 850 ≤ length (now rest)) × (length (now rest) ≤ 65535 * 850) × (first .number ≤ 65536) ⌝ }
+    ensures { λ r. ⌜ r ≡ sought told (learnt falls accounts (first .number) (take (records * 850) (seen first (now (rest .entry))))) ⌝ }
 {
     if is_told(told) {
         return Seeking { told, again: false };
@@ -120,12 +122,13 @@ fn seek(
     tell(Repeat::Nowhere, crowded)
 }
 
-// The row of the batch that begins the rest of the file; its header has the number `first`, and its schedule number repeats an earlier
+// The row of the batch that begins the rest of the file; its header has the line `first`, and its schedule number repeats an earlier
 // batch's or not. One walk tells all where no Payment ID repeats and the kinds are not too many.
-pub fn judge_batch(book: &[u8], shelves: Book, rest: &[u8], first: usize, repeats: bool) -> Row
-    requires { ⌜ Usable (now book) shelves × Judgeable first (now rest) ⌝ }
-    ensures { λ r. ⌜ IsRow (listedAt (now (book .entry)) shelves) repeats first (now (rest .entry)) r ⌝ }
+pub fn judge_batch(book: &[u8], shelves: Book, rest: &[u8], first: Line, repeats: bool) -> Row
+    requires { ⌜ Usable (now book) shelves × Judgeable (first .number) (seen first (now rest)) ⌝ }
+    ensures { λ r. ⌜ IsRow (listedAt (now (book .entry)) shelves) repeats (first .number) (seen first (now (rest .entry))) r ⌝ }
 {
+    let number = first.number;
     let total = Amount { high: 0, low: 0 };
     let finding = Finding {
         reason: 0,
@@ -133,7 +136,7 @@ pub fn judge_batch(book: &[u8], shelves: Book, rest: &[u8], first: usize, repeat
         field: 0,
     };
     let mut row = Row {
-        first_record: first,
+        first_record: number,
         records: 0,
         payments: 0,
         total,
@@ -156,7 +159,7 @@ pub fn judge_batch(book: &[u8], shelves: Book, rest: &[u8], first: usize, repeat
             state.accounts,
             told,
         );
-        row = row_of(walked, first);
+        row = row_of(walked, number);
         told = next.told;
         again = next.again;
     }

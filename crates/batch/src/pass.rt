@@ -11,6 +11,7 @@ use repeats::climb::Climbing;
 use repeats::climb::climb;
 ghost use mathlib.Core.Path.{_≡_};
 ghost use Rattle.record.specs.Choice.{choose};
+ghost use Rattle.record.specs.Value.{seen};
 ghost use Rattle.record.specs.Codes.{isTrailer};
 ghost use Rattle.book.specs.Book.{Usable, listedAt};
 ghost use Rattle.batch.specs.Batch.{Judgeable};
@@ -55,15 +56,14 @@ pub(crate) fn walk_batch(
     book: &[u8],
     shelves: Book,
     rest: &[u8],
-    first: usize,
+    first: Line,
     repeats: bool,
     told: Told,
 ) -> Walked
-    requires { ⌜ Usable (now book) shelves × Judgeable first (now rest) ⌝ }
-    ensures { λ r. ⌜ r ≡ walkOf (listedAt (now (book .entry)) shelves) repeats told first (now (rest .entry)) ⌝ }
+    requires { ⌜ Usable (now book) shelves × Judgeable (first .number) (seen first (now rest)) ⌝ }
+    ensures { λ r. ⌜ r ≡ walkOf (listedAt (now (book .entry)) shelves) repeats told (first .number) (seen first (now (rest .entry))) ⌝ }
 {
-    let opening = Line { number: first };
-    let mut state = walk::open_batch(book, shelves, &rest[0..850], opening, repeats, told.crowded);
+    let mut state = walk::open_batch(book, shelves, &rest[0..850], first, repeats, told.crowded);
     let mut climbing = Climbing {
         falls: false,
         greatest: [0u8; 20],
@@ -73,8 +73,11 @@ pub(crate) fn walk_batch(
     let mut stop = rest.len();
     while at < stop {
         let end = at + 850;
-        let number = first + records;
-        let line = Line { number };
+        let number = first.number + records;
+        let line = Line {
+            number,
+            ascii: first.ascii,
+        };
         let repeated = is_at(told, number);
         let code = code_of(&rest[at..end], line);
         state = walk::step(book, shelves, &rest[at..end], line, code, state, repeated);

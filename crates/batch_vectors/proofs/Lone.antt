@@ -1,11 +1,14 @@
 -- A file with one batch: the batch's records are the part between FH and FT.
 -- Assumes nothing.
 use mathlib.Core.Path.{_≡_, refl, sym, _∙_}
+use mathlib.Core.Bool.{false}
 use mathlib.Core.List.{List, [], _∷_, append-nil}
 use Prim.Native.Nat.{ℕ, _+_, _*_, _/_, _-_, _≤_}
 use native.Mathlib.Omega.{arith}
 use lib.ListN.{length, take, drop, length-drop, length-append}
 use lib.Seq.{length-take-le}
+use Rattle.page.specs.CodePage.{shown}
+use Rattle.page.proofs.Shown.{shown-plain}
 use Rattle.nesting.specs.declared.Verdict.the-variants.{Legal}
 use Rattle.nesting.specs.Division.{All, Batch, Division, LegalBatch, DivisionOf, batchLines}
 use Rattle.nesting.specs.Records.{records, Cuttable}
@@ -65,12 +68,15 @@ lone : (f : List ℕ) (s : Survey) (n k : ℕ) → Cuttable f → Surveyed f s �
 lone f s n k w t e l = divided f n k w (rw (← e) (nested f s t)) l
 
 -- in the words of the bounds that the part's ends ask for
-module _ (f : List ℕ) (s : Survey) (n k : ℕ) (w : Cuttable f) (t : Surveyed f s) (e : s .nested ≡ Legal n k) (l : n ≡ 1) where
+module _ (f : List ℕ) (s : Survey) (n k : ℕ) (w : Cuttable f) (t : Surveyed (shown false f) s) (e : s .nested ≡ Legal n k) (l : n ≡ 1) where
+  here : Lone f
+  here = lone f s n k w (rw (shown-plain f) at t) e l
+
   pub lone-start : 850 ≤ length f
-  lone-start = omega (arith, lone f s n k w t e l .room)
+  lone-start = omega (arith, here .room)
 
   pub lone-end : 850 ≤ length f - 850
-  lone-end = omega (arith, lone f s n k w t e l .room)
+  lone-end = omega (arith, here .room)
 
-  pub lone-judgeable : Judgeable 2 (between f)
-  lone-judgeable = lone f s n k w t e l .judgeable
+  pub lone-judgeable : Judgeable 2 (shown false (between f))
+  lone-judgeable = rw (shown-plain (between f)) (here .judgeable)

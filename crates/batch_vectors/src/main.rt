@@ -9,9 +9,12 @@ use book::Book;
 use files::AT_HAND;
 use files::SPACE;
 use nesting::Verdict;
+use record::Line;
 ghost use Prim.Native.Nat.{_≤_};
 ghost use lib.ListN.{length};
 ghost use Rattle.io.specs.Counts.{Counts};
+ghost use mathlib.Core.Bool.{false};
+ghost use Rattle.page.specs.CodePage.{shown};
 ghost use Rattle.book.specs.Book.{Usable};
 ghost use Rattle.nesting.specs.Records.{Cuttable};
 ghost use Rattle.batch.specs.Batch.{Judgeable};
@@ -52,16 +55,20 @@ fn show_none() {
 
 // The row of the batch whose records are the part of the file behind FH.
 fn show_batch(book: &[u8], shelves: Book, part: &[u8], repeats: bool)
-    requires { ⌜ Usable (now book) shelves × Judgeable 2 (now part) ⌝ }
+    requires { ⌜ Usable (now book) shelves × Judgeable 2 (shown false (now part)) ⌝ }
 {
-    show_row(batch::judge_batch(book, shelves, part, 2, repeats));
+    let first = Line {
+        number: 2,
+        ascii: false,
+    };
+    show_row(batch::judge_batch(book, shelves, part, first, repeats));
 }
 
 // A file's only batch stands between FH and FT.
 fn show_file(book: &[u8], shelves: Book, file: &[u8], repeats: bool)
     requires { ⌜ Usable (now book) shelves × Cuttable (now file) ⌝ }
 {
-    let found = survey::survey_file(file);
+    let found = survey::survey_file(file, false);
     let nested = found.nested;
     match nested {
         Verdict::Legal(batches, _) => {

@@ -40,7 +40,7 @@ currencyKind = record { number = 7; code = 3; entry = 3 }
 
 -- a book is EBCDIC, whatever the file is
 abbrev pub lent : Line
-lent = record { number = 0 }
+lent = record { number = 0; ascii = false }
 
 -- the code of an entry
 unfoldable pub entryCode : ℕ → List ℕ → List ℕ

@@ -5,7 +5,10 @@ pub mod search;
 use record::Line;
 
 // A book is EBCDIC, whatever the file is, and has no place in it.
-const LENT: Line = Line { number: 0 };
+const LENT: Line = Line {
+    number: 0,
+    ascii: false,
+};
 
 // A kind of section: its number, the bytes of a code and the bytes of an entry.
 pub struct Kind {

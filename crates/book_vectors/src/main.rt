@@ -20,7 +20,10 @@ fn show_section(book: &[u8], section: Section, query: &[u8; 40], width: usize)
         book,
         section,
         query,
-        Line { number: 0 },
+        Line {
+            number: 0,
+            ascii: false,
+        },
         Field { start: 1, width },
     );
     show(section.count);

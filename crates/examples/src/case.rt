@@ -5,11 +5,13 @@
 //     digits 3 42 12345  the digits that end at position 42 of record 3
 //     kinds 1001 34      the DT of the file in the four positions that end at 34: their number, from 0, modulo 1001
 //     code 7 46 40       the bytes of the code book from 7 to 46, again and again
+//     ASCII              the file made so far, in ASCII; the bytes of later changes stand as they are
 //     file 849           the bytes of the file, where they are not all
 //     book 41            the bytes of the code book
 //     report 127         the bytes of the report space, where they are not the room that its batches need
 //
 // The first letter tells what an item is; batches stand before the others.
+use crate::ascii;
 use crate::changes;
 use crate::files;
 use crate::files::AT_HAND;
@@ -142,6 +144,16 @@ fn take_kinds(file: &mut [u8; SPACE], row: &[u8], case: Case, from: usize) -> Ca
     moved(case, last.next)
 }
 
+// The file in ASCII.
+fn take_ascii(file: &mut [u8; SPACE], at_hand: &[u8; AT_HAND], case: Case, next: usize) -> Case
+    requires { ⌜ Sized (case .made) ⌝ }
+    ensures { λ r. ⌜ Sized (r .made) × (r .next ≡ next) ⌝ }
+{
+    let made = case.made;
+    ascii::turn(file, at_hand, made.records * 850);
+    moved(case, next)
+}
+
 fn either(test: bool, one: usize, other: usize) -> usize {
     if test { one } else { other }
 }
@@ -208,6 +220,7 @@ fn take_named(
         b'B' => take_batch(file, at_hand, row, case, letter, from),
         b'a' | b'c' | b'd' => take_moved(file, book, row, case, name, from),
         b'k' => take_kinds(file, row, case, from),
+        b'A' => take_ascii(file, at_hand, case, from),
         _ => take_length(row, case, name, from),
     }
 }

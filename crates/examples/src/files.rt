@@ -11,11 +11,14 @@ const MOST: usize = 3700;
 
 pub(crate) const SPACE: usize = 3145000;
 
-// The sound records at hand, in this order: FH, FT, then for each letter of N, C, W, I, A a header, a detail, a DX, a payment's first
-// DT, its other DT, its first DP, its other DP, a BT.
-pub(crate) const AT_HAND: usize = 35700;
+// The bytes of the sound records at hand, in this order: FH, FT, then for each letter of N, C, W, I, A a header, a detail, a DX, a
+// payment's first DT, its other DT, its first DP, its other DP, a BT.
+pub(crate) const RECORDS: usize = 35700;
 
-// Where they stand; those of each next letter stand eight places on. After ACCOUNT and PROCUREMENT comes the other one.
+// The same, and after them the ASCII of each byte of code page 037.
+pub(crate) const AT_HAND: usize = 35956;
+
+// Where the records stand; those of each next letter stand eight places on. After ACCOUNT and PROCUREMENT comes the other one.
 const FILE_HEADER: usize = 0;
 
 const FILE_TRAILER: usize = 1;

@@ -1,5 +1,6 @@
 // Shows what the judge answers to each case of a table (01 File answers, Report): the number that it returns; of an accepted file the
 // numbers of each row; and whether the bytes of the report space outside those rows are as they were.
+mod ascii;
 mod case;
 mod changes;
 mod files;
@@ -9,6 +10,7 @@ mod table;
 use case::BOOK;
 use case::Case;
 use files::AT_HAND;
+use files::RECORDS;
 use files::SPACE;
 ghost use Prim.Native.Nat.{_+_, _≤_, _<_};
 ghost use lib.ListN.{length};
@@ -17,7 +19,7 @@ ghost use Rattle.report.specs.Rows.{roomFor};
 ghost use Rattle.examples.specs.Sized.{Sized};
 
 // The most bytes of the table.
-const TABLE: usize = 131072;
+const TABLE: usize = 262144;
 
 // The bytes of the report space; the judge is lent the first of them.
 const REPORT: usize = 1024;
@@ -176,6 +178,7 @@ fn main() {
     let mut table = [0u8; TABLE];
     let size = read_file(b"book.bin", &mut book);
     read_file(b"records.bin", &mut at_hand);
+    read_file(b"ascii.bin", &mut at_hand[RECORDS..]);
     let end = io::read_full(0, &mut table);
     show_table(&at_hand, book, size, &table[..end]);
 }

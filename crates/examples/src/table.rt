@@ -1,9 +1,9 @@
-// The table of cases, text in ASCII. A row is a label of 48 columns, then items, each a word that names it and the words that it takes.
+// The table of cases, text in ASCII. A row is a label of 56 columns, then items, each a word that names it and the words that it takes.
 ghost use Prim.Native.Nat.{_≤_, _<_};
 ghost use lib.ListN.{length};
 
 // The columns of a label.
-pub(crate) const LABEL: usize = 48;
+pub(crate) const LABEL: usize = 56;
 
 // A word of a row: from `start` up to `end`.
 pub(crate) struct Word {

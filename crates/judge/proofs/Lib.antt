@@ -2,3 +2,4 @@ mod Ready
 pub mod Examples
 pub mod Theorems
 pub mod Unique
+pub mod Ascii

@@ -8,6 +8,8 @@ use native.Mathlib.Omega.{arith}
 use lib.Dec.{eqb, ltb}
 use lib.ListN.{length}
 use borrow.Author.Tests.{eqb-true, eqb-false, ltb-true, ltb-false}
+use Rattle.page.specs.CodePage.{shown, isAscii}
+use Rattle.page.proofs.Shown.{translated-is}
 use Rattle.book.specs.Book.{Contents, Lists, listedAt, Usable, placed}
 use Rattle.book.specs.Book.Opened.{sound}
 use Rattle.book.proofs.Chains.{usable, listed-there}
@@ -20,7 +22,7 @@ use Rattle.verdict.specs.Answer.Reason.{Ragged, TooLong, ReportShort}
 use Rattle.verdict.specs.Answer.Judgement.{refused, accepted}
 use Rattle.verdict.proofs.Numbers.{some-number}
 use Rattle.rows.specs.Report.{headOf, Writable, Written, reported, rowsOf}
-use Rattle.judge.specs.Judged.{Judged}
+use Rattle.judge.specs.Judged.{Judged, Promised}
 
 -- a refusal is never 0
 pub not-zero : (k : Reason) (m : ℕ) → numberOf k * 100000 + m ≡ 0 → ⊥
@@ -82,7 +84,7 @@ module _ (file book : List ℕ) where
         })
 
     -- the rows that were written are the promised ones
-    pub ready-judged : (after : List ℕ) → Written (listedAt book (v .shelves)) file report after → Judged file book report 0 after
+    ready-judged : (after : List ℕ) → Written (listedAt book (v .shelves)) file report after → Judged file book report 0 after
     unfolding acceptance
     ready-judged after w =
         let there : listedAt book (v .shelves) ≡ r .contents = ap (λ (u : Verdict). listedAt book (u .shelves)) (r .is) ∙ listed-there book (r .contents) (r .lists) in
@@ -90,7 +92,16 @@ module _ (file book : List ℕ) where
         rw e (Judged.accepted (r .none) (r .contents) (r .lists) (r .division) (r .divided))
 
   -- a refusal leaves the report as it was
-  pub kept : (report : List ℕ) (v : Verdict) → Judgement file book (length report) v → (v .answer ≡ 0 → ⊥) → Judged file book report (v .answer) report
+  kept : (report : List ℕ) (v : Verdict) → Judgement file book (length report) v → (v .answer ≡ 0 → ⊥) → Judged file book report (v .answer) report
   unfolding refusal acceptance
   kept report v (refused k m r) n = Judged.refused k m r
   kept report v (accepted n c l d h) z = absurd (z refl)
+
+-- the same of the file that was sent, which is ASCII or not
+module _ (sent book : List ℕ) (ascii : Bool) (a : ascii ≡ isAscii sent) (report : List ℕ) (v : Verdict) where
+  pub ready-promised : Ready (shown ascii sent) book report v → (after : List ℕ) → Written (listedAt book (v .shelves)) (shown ascii sent) report after
+      → Promised sent book report 0 after
+  ready-promised r after w = rw (← translated-is sent ascii a) (ready-judged (shown ascii sent) book report v r after w)
+
+  pub kept-promised : Judgement (shown ascii sent) book (length report) v → (v .answer ≡ 0 → ⊥) → Promised sent book report (v .answer) report
+  kept-promised j n = rw (← translated-is sent ascii a) (kept (shown ascii sent) book report v j n)

@@ -1,7 +1,9 @@
--- What the entry promises: the first reason that applies and the report as it was, or 0 and the head and the rows of the file's division (01 File answers, Report).
+-- What the entry promises: the first reason that applies and the report as it was, or 0 and the head and the rows of the file's division (01 File answers, Report);
+-- of a file that is ASCII, what it promises of the translated file (02 W2).
 use Prim.Native.Nat.{ℕ, _+_, _*_}
 use mathlib.Core.List.{List}
 use lib.ListN.{length}
+use Rattle.page.specs.CodePage.{translated}
 use Rattle.book.specs.Book.{Contents, Lists}
 use Rattle.nesting.specs.Division.{Division, DivisionOf}
 use Rattle.nesting.specs.Records.{records}
@@ -13,3 +15,7 @@ pub data Judged (file book report : List ℕ) : ℕ → List ℕ → Type 0 wher
   refused : (k : Reason) (m : ℕ) → Refused file book (length report) k m → Judged file book report (numberOf k * 100000 + m) report
   accepted : ((j : Reason) → Applies file book (length report) j → ⊥) → (c : Contents) → Lists book c → (d : Division) → DivisionOf (records file) d
       → Judged file book report 0 (reported report (headOf d) (rowsOf c d))
+
+-- the answer and the report are those of the translated file; a file that is not ASCII is its own translation (02 W2)
+abbrev pub Promised : List ℕ → List ℕ → List ℕ → ℕ → List ℕ → Type 0
+Promised file book report answer after = Judged (translated file) book report answer after

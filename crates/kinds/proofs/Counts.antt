@@ -3,12 +3,13 @@
 use mathlib.Core.Path.{_≡_, refl, sym, ap, _∙_}
 use mathlib.Core.Bool.{Bool, true, false}
 use mathlib.Core.List.{List, [], _∷_, _++_}
-use Prim.Native.Nat.{ℕ, suc, _+_, _-_, _*_, _≤_, _<_}
+use Prim.Native.Nat.{ℕ, suc, _+_, _-_, _*_, _/_, _≤_, _<_}
 use native.Mathlib.Omega.{arith}
 use borrow.Author.Tests.{lt-ltb}
 use lib.ListN.{length}
 use Rattle.record.specs.declared.codes.Code.{Code}
 use Rattle.record.specs.Choice.{_and_, choose}
+use Rattle.page.specs.CodePage.{shown}
 use Rattle.record.specs.Codes.{codeOf}
 use Rattle.nesting.specs.Records.{cut, recordAt}
 use Rattle.nesting.proofs.Cuts.{recordFrom, from-place, onward, cut-onward, cut-start}
@@ -21,8 +22,9 @@ use Rattle.kinds.proofs.Stretch.{kind-held}
 use Rattle.kinds.proofs.Different.{different-known, different-new, few-uncrowded}
 
 -- the record at the place is a DT, as the code reads it
-pub at-place : (first place : ℕ) (xs : List ℕ) (k : Code) (r : Bool) → k ≡ codeOf (recordFrom xs (first + place) (place * 850)) → r ≡ isAccount k → r ≡ isAccount (codeOf (recordAt first place xs))
-at-place first place xs k r e h = rw (← from-place first place xs, ← e) h
+pub at-place : (ascii : Bool) (first place : ℕ) (xs : List ℕ) (k : Code) (r : Bool) → k ≡ codeOf (recordFrom ascii xs (place * 850)) → r ≡ isAccount k
+    → r ≡ isAccount (codeOf (recordAt first place (shown ascii xs)))
+at-place ascii first place xs k r e h = rw (← from-place ascii first place xs, ← e) h
 
 module _ (first : ℕ) (bytes table : List ℕ) (count place : ℕ) where
   abbrev account : Bool
@@ -134,13 +136,14 @@ module _ (first : ℕ) (bytes : List ℕ) (records : ℕ) where
             go false o = other (q ∙ rw o) (a ∙ rw o) o
 
     -- at the first kind too many, and behind the last record
-    pub counted-crowded : 1000 < count → true ≡ crowded (kinds (cut first records bytes))
-    unfolding crowded
-    counted-crowded h = sym (lt-ltb 1000 (different [] (kinds (cut first records bytes))) (omega (arith, c .left)))
+    module _ (e : records ≡ length bytes / 850) where
+      pub counted-crowded : 1000 < count → true ≡ crowded (kinds (cut first (length bytes / 850) bytes))
+      unfolding crowded
+      counted-crowded h = rw (← e) (sym (lt-ltb 1000 (different [] (kinds (cut first records bytes))) (omega (arith, c .left))))
 
-    pub counted-all : count ≤ 1000 → records ≤ place → false ≡ crowded (kinds (cut first records bytes))
-    unfolding crowded cut kinds different
-    counted-all h l =
-        let z : records - place ≡ 0 = omega arith in
-        let n : different [] (kinds (cut first records bytes)) ≡ count = c .left ∙ rw z (omega arith) in
-        sym (few-uncrowded (kinds (cut first records bytes)) (omega (arith, n)))
+      pub counted-all : count ≤ 1000 → records ≤ place → false ≡ crowded (kinds (cut first (length bytes / 850) bytes))
+      unfolding crowded cut kinds different
+      counted-all h l =
+          let z : records - place ≡ 0 = omega arith in
+          let n : different [] (kinds (cut first records bytes)) ≡ count = c .left ∙ rw z (omega arith) in
+          rw (← e) (sym (few-uncrowded (kinds (cut first records bytes)) (omega (arith, n))))

@@ -8,6 +8,7 @@ ghost use mathlib.Core.Path.{_≡_};
 ghost use Prim.Native.Nat.{_+_, _*_, _/_, _<_, _≤_};
 ghost use lib.ListN.{length};
 ghost use Rattle.record.specs.Choice.{choose};
+ghost use Rattle.record.specs.Value.{seen};
 ghost use Rattle.record.specs.Codes.{codeOf};
 ghost use Rattle.nesting.specs.Records.{cut, recordAt};
 ghost use Rattle.tables.specs.Tables.{Stands, Tabled};
@@ -34,14 +35,15 @@ fn is_account(code: Code) -> bool
 }
 
 // The record at the place is a DT.
-fn has_kind(file: &[u8], first: usize, place: usize) -> bool
-    requires { ⌜ Stands first place (now file) ⌝ }
-    ensures { λ r. ⌜ r ≡ isAccount (codeOf (recordAt first place (now (file .entry)))) ⌝ }
+fn has_kind(file: &[u8], first: Line, place: usize) -> bool
+    requires { ⌜ Stands (first .number) place (now file) ⌝ }
+    ensures { λ r. ⌜ r ≡ isAccount (codeOf (recordAt (first .number) place (seen first (now (file .entry))))) ⌝ }
 {
     let at = place * 850;
     let end = at + 850;
-    let number = first + place;
-    let code = code_of(&file[at..end], Line { number });
+    let number = first.number + place;
+    let ascii = first.ascii;
+    let code = code_of(&file[at..end], Line { number, ascii });
     is_account(code)
 }
 
@@ -58,10 +60,10 @@ fn with_kind(known: bool, before: usize) -> usize
 }
 
 // The kinds so far, with the record at the place: a DT of a kind that the table lacks counts, and is entered.
-fn count(file: &[u8], first: usize, place: usize, table: &mut [u16], kinds: usize) -> usize
-    requires { ⌜ Tabled first stretch (now file) (now table) kinds × Stands first place (now file) × (place < 65536) × (kinds < length (now table)) ⌝ }
-    ensures answer { λ r. ⌜ r ≡ counted first (now (file .entry)) (now (table .entry)) kinds place ⌝ }
-    ensures after { λ r. ⌜ now (table .exit) ≡ tableCounted first (now (file .entry)) (now (table .entry)) kinds place ⌝ }
+fn count(file: &[u8], first: Line, place: usize, table: &mut [u16], kinds: usize) -> usize
+    requires { ⌜ Tabled (first .number) stretch (seen first (now file)) (now table) kinds × Stands (first .number) place (now file) × (place < 65536) × (kinds < length (now table)) ⌝ }
+    ensures answer { λ r. ⌜ r ≡ counted (first .number) (seen first (now (file .entry))) (now (table .entry)) kinds place ⌝ }
+    ensures after { λ r. ⌜ now (table .exit) ≡ tableCounted (first .number) (seen first (now (file .entry))) (now (table .entry)) kinds place ⌝ }
 {
     if !has_kind(file, first, place) {
         return kinds;
@@ -71,9 +73,9 @@ fn count(file: &[u8], first: usize, place: usize, table: &mut [u16], kinds: usiz
 }
 
 // The DT of the records have too many kinds. The pass ends at the first kind too many.
-pub fn are_crowded(part: &[u8], first: usize) -> bool
-    requires { ⌜ (length (now part) ≤ 65535 * 850) × (first ≤ 65536) ⌝ }
-    ensures { λ r. ⌜ r ≡ crowded (kinds (cut first (length (now (part .entry)) / 850) (now (part .entry)))) ⌝ }
+pub fn are_crowded(part: &[u8], first: Line) -> bool
+    requires { ⌜ (length (now part) ≤ 65535 * 850) × (first .number ≤ 65536) ⌝ }
+    ensures { λ r. ⌜ r ≡ crowded (kinds (cut (first .number) (length (seen first (now (part .entry))) / 850) (seen first (now (part .entry))))) ⌝ }
 {
     let records = part.len() / 850;
     let mut table = [0u16; MOST + 1];

@@ -1,4 +1,5 @@
-// Shows what the leaves say of records that another program encoded in EBCDIC: a line for each record on standard input.
+// Shows what the leaves say of records that another program encoded: a line for each record on standard input. A record that begins with FH
+// in ASCII is ASCII.
 use record::Field;
 use record::Line;
 use record::Order;
@@ -90,6 +91,24 @@ fn show_values(rec: &[u8; 850], line: Line) {
     ));
 }
 
+// What each byte of positions 3 to 258 is seen as.
+fn show_page(rec: &[u8; 850], line: Line) {
+    let mut i: usize = 0;
+    while i < 256 {
+        let byte = record::part_byte(
+            rec,
+            line,
+            Field {
+                start: 3,
+                width: 256,
+            },
+            i,
+        );
+        show(byte as u64);
+        i += 1;
+    }
+}
+
 // Reads and shows one record, and answers whether there was one.
 fn show_next() -> bool {
     let mut rec = [0u8; 850];
@@ -97,10 +116,14 @@ fn show_next() -> bool {
     if n < 850 {
         return false;
     }
-    let line = Line { number: 1 };
+    let ascii = page::is_ascii(&rec);
+    let line = Line { number: 1, ascii };
     show_bytes(&rec, line);
     show_dates(&rec, line);
     show_values(&rec, line);
+    if ascii {
+        show_page(&rec, line);
+    }
     io::write_all(1, b"\n");
     true
 }

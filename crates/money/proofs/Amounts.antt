@@ -11,9 +11,9 @@ use borrow.Author.Tests.{eq-eqb, ne-eqb, eqb-true, eqb-false, lt-ltb, le-ltb, lt
 use lib.ListN.{length, take, drop, length-drop, take-append-drop}
 use lib.Seq.{slice, take-all}
 use Rattle.record.specs.declared.Field.{Field}
-use Rattle.record.specs.declared.Line.{Line}
 use Rattle.record.specs.Choice.{choose}
-use Rattle.record.specs.Value.{Has, held, seen}
+use Rattle.page.specs.CodePage.{shown}
+use Rattle.record.specs.Value.{Has, held}
 use Rattle.record.specs.Tests.{digits}
 use Rattle.record.specs.Numeral.{numeral}
 use Rattle.record.proofs.Held.{held-length}
@@ -92,12 +92,12 @@ module _ (a b : Amount) (u : Whole a) (v : Whole b) where
       go false e = e ∙ sym (le-ltb (worth b) (worth a) (omega (arith, u, v, h, ltb-false (b .high) (a .high) e)))
 
 -- a field of twenty digits, read as two numbers of ten
-module _ (line : Line) (rec : List ℕ) (f : Field) (p : Has rec f) (w : f .width ≡ 20) (r : Bool) (e : r ≡ digits (slice 0 20 (held (seen line rec) f))) where
-  twenty : length (held (seen line rec) f) ≡ 20
-  twenty = held-length line rec f p ∙ w
+module _ (ascii : Bool) (rec : List ℕ) (f : Field) (p : Has rec f) (w : f .width ≡ 20) (r : Bool) (e : r ≡ digits (slice 0 20 (held (shown ascii rec) f))) where
+  twenty : length (held (shown ascii rec) f) ≡ 20
+  twenty = held-length ascii rec f p ∙ w
 
-  all-digits : r ≡ digits (held (seen line rec) f)
-  all-digits = e ∙ ap digits (take-all 20 (held (seen line rec) f) (omega (arith, twenty)))
+  all-digits : r ≡ digits (held (shown ascii rec) f)
+  all-digits = e ∙ ap digits (take-all 20 (held (shown ascii rec) f) (omega (arith, twenty)))
 
   halves : (xs : List ℕ) → length xs ≡ 20 → digits xs ≡ true
       → (numeral xs ≡ numeral (slice 0 10 xs) * 10000000000 + numeral (slice 10 20 xs)) × (numeral (slice 10 20 xs) < 10000000000)
@@ -108,18 +108,18 @@ module _ (line : Line) (rec : List ℕ) (f : Field) (p : Has rec f) (w : f .widt
       let l = numeral-below (slice 10 20 xs) (digits-part 10 20 xs true (sym d) refl) in
       rw t (omega (arith, rw (take-append-drop, k) at a, rw (t, k) at l))
 
-  pub half-digits : (from to : ℕ) → r ≡ true → digits (slice from to (held (seen line rec) f)) ≡ true
-  half-digits from to t = digits-part from to (held (seen line rec) f) r all-digits t
+  pub half-digits : (from to : ℕ) → r ≡ true → digits (slice from to (held (shown ascii rec) f)) ≡ true
+  half-digits from to t = digits-part from to (held (shown ascii rec) f) r all-digits t
 
-  pub amount-read : (h l : ℕ) → r ≡ true → h ≡ numeral (slice 0 10 (held (seen line rec) f)) → l ≡ numeral (slice 10 20 (held (seen line rec) f))
-      → record { high = h; low = l } ≡ split (cents (held (seen line rec) f))
+  pub amount-read : (h l : ℕ) → r ≡ true → h ≡ numeral (slice 0 10 (held (shown ascii rec) f)) → l ≡ numeral (slice 10 20 (held (shown ascii rec) f))
+      → record { high = h; low = l } ≡ split (cents (held (shown ascii rec) f))
   unfolding cents split choose
   amount-read h l t a b =
-      let d : digits (held (seen line rec) f) ≡ true = sym all-digits ∙ t in
-      let s = halves (held (seen line rec) f) twenty d in
+      let d : digits (held (shown ascii rec) f) ≡ true = sym all-digits ∙ t in
+      let s = halves (held (shown ascii rec) f) twenty d in
       rw d (amount-equal _ _ (omega (arith, a, b, s)) (omega (arith, a, b, s)))
 
-  pub amount-none : r ≡ false → record { high = 0; low = 0 } ≡ split (cents (held (seen line rec) f))
+  pub amount-none : r ≡ false → record { high = 0; low = 0 } ≡ split (cents (held (shown ascii rec) f))
   unfolding cents split choose
   amount-none t = rw (sym all-digits ∙ t)
 

@@ -1,13 +1,15 @@
 -- The records of a file: whole, as many as there are, side by side the file again; those of a part of it; and each by its place.
 -- Assumes nothing.
 use mathlib.Core.Path.{_≡_, refl, _∙_, ap}
+use mathlib.Core.Bool.{Bool}
 use mathlib.Core.List.{List, [], _∷_, _++_}
 use Prim.Native.Nat.{ℕ, zero, suc, _+_, _*_, _/_, _-_, _<_, _≤_}
 use native.Mathlib.Omega.{arith}
 use lib.ListN.{length, take, drop, getD, length-take, length-drop, take-append-drop}
 use lib.Seq.{take-take, drop-drop, take-add, drop-at, length-take-le}
+use Rattle.page.specs.CodePage.{shown}
 use Rattle.record.specs.Value.{seen}
-use Rattle.record.proofs.Held.{as-sent}
+use Rattle.page.proofs.Shown.{shown-plain, shown-take, shown-drop}
 use Rattle.nesting.specs.Division.{Record, All, Whole}
 use Rattle.nesting.specs.Records.{lineOf, cut, recordAt, records, joined, Cuttable}
 use Rattle.nesting.proofs.Wholes.{Bytes, all-take, all-drop}
@@ -26,7 +28,7 @@ cut-whole : (n k : ℕ) (xs : List ℕ) → k * 850 ≤ length xs → Bytes xs �
 unfolding cut
 cut-whole n zero xs h b = tt
 cut-whole n (suc k) xs h b = (
-  rw as-sent (record { size = length-take-le 850 xs (omega arith); bytes = all-take (λ x. x < 256) 850 xs b }),
+  rw shown-plain (record { size = length-take-le 850 xs (omega arith); bytes = all-take (λ x. x < 256) 850 xs b }),
   cut-whole (n + 1) k (drop 850 xs) (rw length-drop (omega arith)) (all-drop (λ x. x < 256) 850 xs b),
 )
 
@@ -40,7 +42,7 @@ unfolding cut joined
 cut-joined n zero (x ∷ xs) h = absurd (omega arith)
 cut-joined n zero [] h = refl
 cut-joined n (suc k) xs h =
-    rw (as-sent, cut-joined (n + 1) k (drop 850 xs) (rw length-drop (omega arith))) (take-append-drop 850 xs)
+    rw (shown-plain, cut-joined (n + 1) k (drop 850 xs) (rw length-drop (omega arith))) (take-append-drop 850 xs)
 
 pub records-joined : (f : List ℕ) → Cuttable f → joined (records f) ≡ f
 unfolding records
@@ -53,16 +55,19 @@ bytesFrom f at = take (at + 850 - at) (drop at f)
 pub from-length : (f : List ℕ) (at : ℕ) → at + 850 ≤ length f → length (bytesFrom f at) ≡ 850
 from-length f at h = simp (length-take, length-drop) (omega arith)
 
-abbrev pub recordFrom : List ℕ → ℕ → ℕ → Record
-recordFrom f number at = seen (lineOf number) (bytesFrom f at)
+abbrev pub recordFrom : Bool → List ℕ → ℕ → Record
+recordFrom ascii f at = shown ascii (bytesFrom f at)
+
+pub from-seen : (ascii : Bool) (f : List ℕ) (number at : ℕ) → recordFrom ascii f at ≡ seen (lineOf number) (take 850 (drop at (shown ascii f)))
+from-seen ascii f number at =
+    let k : at + 850 - at ≡ 850 = omega arith in
+    rw (k, shown-plain) (shown-take ascii 850 (drop at f) ∙ ap (take 850) (shown-drop ascii at f))
 
 -- where one more record is left
-pub cut-next : (f : List ℕ) (number at count : ℕ)
-    → cut number (suc count) (drop at f) ≡ recordFrom f number at ∷ cut (number + 1) count (drop (at + 850) f)
+pub cut-next : (ascii : Bool) (f : List ℕ) (number at count : ℕ)
+    → cut number (suc count) (drop at (shown ascii f)) ≡ recordFrom ascii f at ∷ cut (number + 1) count (drop (at + 850) (shown ascii f))
 unfolding cut
-cut-next f number at count =
-    let k : at + 850 - at ≡ 850 = omega arith in
-    rw (k, drop-drop 850 at f)
+cut-next ascii f number at count = rw (from-seen ascii f number at, drop-drop 850 at (shown ascii f))
 
 -- the records from a place on
 cut-drop : (n i m : ℕ) (xs : List ℕ) → drop i (cut n (i + m) xs) ≡ cut (n + i) m (drop (i * 850) xs)
@@ -97,21 +102,20 @@ cut-part n i j k xs h w =
     (rw (cut-drop n i (j + (k - i - j)) xs) (cut-take (n + i) j (k - i - j) (drop (i * 850) xs) (rw length-drop (omega arith))))
 
 -- the record at a place, as the code takes it
-pub from-place : (first place : ℕ) (xs : List ℕ) → recordFrom xs (first + place) (place * 850) ≡ recordAt first place xs
+pub from-place : (ascii : Bool) (first place : ℕ) (xs : List ℕ) → recordFrom ascii xs (place * 850) ≡ recordAt first place (shown ascii xs)
 unfolding recordAt
-from-place first place xs =
-    let e : place * 850 + 850 - place * 850 ≡ 850 = omega arith in
-    rw e
+from-place ascii first place xs = from-seen ascii xs (first + place) (place * 850)
 
 -- the records from a place on: so many
 abbrev pub onward : ℕ → ℕ → ℕ → List ℕ → List Record
 onward first place count xs = cut (first + place) count (drop (place * 850) xs)
 
 pub cut-onward : (first place count : ℕ) (xs : List ℕ) → onward first place (suc count) xs ≡ recordAt first place xs ∷ onward first (place + 1) count xs
+unfolding cut recordAt
 cut-onward first place count xs =
     let e : place * 850 + 850 ≡ (place + 1) * 850 = omega arith in
     let f : first + place + 1 ≡ first + (place + 1) = omega arith in
-    cut-next xs (first + place) (place * 850) count ∙ rw (from-place first place xs, e, f)
+    rw (drop-drop 850 (place * 850) xs, e, f)
 
 pub cut-start : (first count : ℕ) (xs : List ℕ) → cut first count xs ≡ onward first 0 count xs
 cut-start first count xs =
@@ -123,14 +127,11 @@ record-later : (first place : ℕ) (xs : List ℕ) → recordAt (first + 1) plac
 unfolding recordAt
 record-later first place xs =
     let e : 850 + place * 850 ≡ suc place * 850 = omega arith in
-    let f : first + 1 + place ≡ first + suc place = omega arith in
-    rw (drop-drop (place * 850) 850 xs, e, f)
+    rw (drop-drop (place * 850) 850 xs, e)
 
 record-first : (first : ℕ) (xs : List ℕ) → seen (lineOf first) (take 850 xs) ≡ recordAt first 0 xs
 unfolding recordAt
-record-first first xs =
-    let e : first + 0 ≡ first = omega arith in
-    rw e
+record-first first xs = refl
 
 pub cut-snoc : (first count : ℕ) (xs : List ℕ) → cut first (count + 1) xs ≡ cut first count xs ++ recordAt first count xs ∷ []
 unfolding cut

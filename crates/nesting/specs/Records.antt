@@ -1,5 +1,6 @@
 -- The records of a file: the file cut every 850 bytes (01 Bytes).
 use mathlib.Core.Path.{_≡_}
+use mathlib.Core.Bool.{false}
 use mathlib.Core.List.{List, [], _∷_, _++_}
 use Prim.Native.Nat.{ℕ, zero, suc, _+_, _*_, _/_, _%_, _≤_}
 use lib.ListN.{length, take, drop}
@@ -7,9 +8,9 @@ use Rattle.record.specs.declared.Line.{Line}
 use Rattle.record.specs.Value.{seen}
 use Rattle.nesting.specs.Division.{Record}
 
--- the line of the record with this number
+-- the line of the record with this number; its bytes are EBCDIC, as they were sent or translated (02 W2)
 abbrev pub lineOf : ℕ → Line
-lineOf number = record { number = number }
+lineOf number = record { number = number; ascii = false }
 
 -- the first `count` records of the bytes, as the rules see them; the first has this number
 unfoldable pub cut : ℕ → ℕ → List ℕ → List Record

@@ -12,7 +12,7 @@ fn show(n: usize) {
 fn show_file(file: &[u8])
     requires { ⌜ Cuttable (now file) ⌝ }
 {
-    let found = survey::survey_file(file);
+    let found = survey::survey_file(file, false);
     let nested = found.nested;
     match nested {
         Verdict::Legal(batches, payments) => {

@@ -16,10 +16,10 @@ pub fn voucher_form(rec: &[u8], line: Line, field: Field) -> usize
     if record::field_blank(rec, line, field) {
         return BLANK;
     }
-    if record::field_is(rec, line, field, b"\xF5\xF5\xF1\xF5") {
+    if record::field_is(rec, line, field, b"\xF5\xF5\xF1\xF5", b"5515") {
         return 0;
     }
-    if record::field_is(rec, line, field, b"\xF2\xF1\xF5\x40") {
+    if record::field_is(rec, line, field, b"\xF2\xF1\xF5\x40", b"215 ") {
         return 0;
     }
     UNLISTED
@@ -33,7 +33,7 @@ pub fn courtesy_check(rec: &[u8], line: Line, field: Field) -> usize
     if record::field_blank(rec, line, field) {
         return BLANK;
     }
-    if record::field_is(rec, line, field, b"\xF0") {
+    if record::field_is(rec, line, field, b"\xF0", b"0") {
         return 0;
     }
     UNLISTED
@@ -47,10 +47,10 @@ pub fn voided_check(rec: &[u8], line: Line, field: Field) -> usize
     if record::field_blank(rec, line, field) {
         return BLANK;
     }
-    if record::field_is(rec, line, field, b"\xF0") {
+    if record::field_is(rec, line, field, b"\xF0", b"0") {
         return 0;
     }
-    if record::field_is(rec, line, field, b"\xF1") {
+    if record::field_is(rec, line, field, b"\xF1", b"1") {
         return 0;
     }
     UNLISTED
@@ -61,13 +61,13 @@ fn is_drawing(rec: &[u8], line: Line, field: Field) -> bool
     requires { ⌜ Has (now rec) field ⌝ }
     ensures { λ r. ⌜ r ≡ oneOf drawings (held (seen line (now (rec .entry))) field) ⌝ }
 {
-    if record::field_is(rec, line, field, b"\xC4\xC5\xD7") {
+    if record::field_is(rec, line, field, b"\xC4\xC5\xD7", b"DEP") {
         return true;
     }
-    if record::field_is(rec, line, field, b"\xC4\xD9\xE6") {
+    if record::field_is(rec, line, field, b"\xC4\xD9\xE6", b"DRW") {
         return true;
     }
-    if record::field_is(rec, line, field, b"\xC4\xD9\xC3") {
+    if record::field_is(rec, line, field, b"\xC4\xD9\xC3", b"DRC") {
         return true;
     }
     false
@@ -78,16 +78,16 @@ fn is_business_function(rec: &[u8], line: Line, field: Field) -> bool
     requires { ⌜ Has (now rec) field ⌝ }
     ensures { λ r. ⌜ r ≡ oneOf businessFunctions (held (seen line (now (rec .entry))) field) ⌝ }
 {
-    if record::field_is(rec, line, field, b"\xC3\xE3\xD9") {
+    if record::field_is(rec, line, field, b"\xC3\xE3\xD9", b"CTR") {
         return true;
     }
-    if record::field_is(rec, line, field, b"\xC2\xE3\xD9") {
+    if record::field_is(rec, line, field, b"\xC2\xE3\xD9", b"BTR") {
         return true;
     }
-    if record::field_is(rec, line, field, b"\xC3\xE3\xD7") {
+    if record::field_is(rec, line, field, b"\xC3\xE3\xD7", b"CTP") {
         return true;
     }
-    if record::field_is(rec, line, field, b"\xC3\xD2\xE2") {
+    if record::field_is(rec, line, field, b"\xC3\xD2\xE2", b"CKS") {
         return true;
     }
     is_drawing(rec, line, field)
@@ -112,16 +112,16 @@ fn is_entry_class(rec: &[u8], line: Line, field: Field) -> bool
     requires { ⌜ Has (now rec) field ⌝ }
     ensures { λ r. ⌜ r ≡ oneOf entryClasses (held (seen line (now (rec .entry))) field) ⌝ }
 {
-    if record::field_is(rec, line, field, b"\xC3\xC3\xC4") {
+    if record::field_is(rec, line, field, b"\xC3\xC3\xC4", b"CCD") {
         return true;
     }
-    if record::field_is(rec, line, field, b"\xD7\xD7\xC4") {
+    if record::field_is(rec, line, field, b"\xD7\xD7\xC4", b"PPD") {
         return true;
     }
-    if record::field_is(rec, line, field, b"\xC9\xC1\xE3") {
+    if record::field_is(rec, line, field, b"\xC9\xC1\xE3", b"IAT") {
         return true;
     }
-    if record::field_is(rec, line, field, b"\xC3\xE3\xE7") {
+    if record::field_is(rec, line, field, b"\xC3\xE3\xE7", b"CTX") {
         return true;
     }
     false
@@ -146,16 +146,16 @@ fn is_transaction_code(rec: &[u8], line: Line, field: Field) -> bool
     requires { ⌜ Has (now rec) field ⌝ }
     ensures { λ r. ⌜ r ≡ oneOf transactionCodes (held (seen line (now (rec .entry))) field) ⌝ }
 {
-    if record::field_is(rec, line, field, b"\xF2\xF2") {
+    if record::field_is(rec, line, field, b"\xF2\xF2", b"22") {
         return true;
     }
-    if record::field_is(rec, line, field, b"\xF3\xF2") {
+    if record::field_is(rec, line, field, b"\xF3\xF2", b"32") {
         return true;
     }
-    if record::field_is(rec, line, field, b"\xF4\xF2") {
+    if record::field_is(rec, line, field, b"\xF4\xF2", b"42") {
         return true;
     }
-    if record::field_is(rec, line, field, b"\xF5\xF2") {
+    if record::field_is(rec, line, field, b"\xF5\xF2", b"52") {
         return true;
     }
     false
@@ -188,6 +188,7 @@ fn is_payer_mechanism(rec: &[u8], line: Line, field: Field) -> bool
         line,
         field,
         b"\xC5\x93\x85\x83\xA3\x99\x96\x95\x89\x83\x40\x40\x40\x40\x40\x40\x40\x40\x40\x40",
+        b"Electronic          ",
     ) {
         return true;
     }
@@ -196,6 +197,7 @@ fn is_payer_mechanism(rec: &[u8], line: Line, field: Field) -> bool
         line,
         field,
         b"\xC3\x88\x85\x83\x92\x40\x40\x40\x40\x40\x40\x40\x40\x40\x40\x40\x40\x40\x40\x40",
+        b"Check               ",
     ) {
         return true;
     }
@@ -204,6 +206,7 @@ fn is_payer_mechanism(rec: &[u8], line: Line, field: Field) -> bool
         line,
         field,
         b"\xE6\x85\xA2\xA3\x85\x99\x95\x40\xE4\x95\x89\x96\x95\x40\x40\x40\x40\x40\x40\x40",
+        b"Western Union       ",
     ) {
         return true;
     }

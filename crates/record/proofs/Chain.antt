@@ -47,6 +47,11 @@ unfolding _and_
 and-false true = refl
 and-false false = refl
 
+pub and-true : (a : Bool) → (a and true) ≡ a
+unfolding _and_
+and-true true = refl
+and-true false = refl
+
 -- what a call's result says, where the result was tested
 pub told : {A : Type 0} (r x b : A) → r ≡ x → r ≡ b → x ≡ b
 told r x b e t = sym e ∙ t

@@ -13,18 +13,29 @@ use lib.ListN.{length, take, drop, getD, length-take, length-drop, drop-of-lengt
 use lib.Seq.{drop-cons, getD-drop, getD-take, slice, slice-cons, slice-empty, take-all}
 use Rattle.record.specs.declared.place.Place.{Place}
 use Rattle.record.specs.Choice.{_and_}
+use Rattle.page.specs.CodePage.{ebcdic}
 use Rattle.record.specs.Place.{Within, value}
 use Rattle.record.specs.Tests.{every, digit, digits, valid, leastFrom}
-use Rattle.record.proofs.Chain.{and-left, and-right}
+use Rattle.record.proofs.Chain.{and-left, and-right, and-true}
+use Rattle.page.proofs.Shown.{shownByte, shown-length, shown-at}
 
 -- a value has as many bytes as its place is wide, and each is the record's
 pub value-length : (rec : List ℕ) (p : Place) → Within rec p → length (value rec p) ≡ p .width
 unfolding value Within
-value-length rec p h = simp (length-take, length-drop) (omega arith)
+value-length rec p h = simp (shown-length, length-take, length-drop) (omega arith)
 
-pub value-at : (rec : List ℕ) (p : Place) (i : ℕ) → i < p .width → getD (value rec p) i 0 ≡ getD rec (p .start + i) 0
-unfolding value
-value-at rec p i h = rw (getD-take, getD-drop)
+value-at : (rec : List ℕ) (p : Place) (i : ℕ) → Within rec p → i < p .width → getD (value rec p) i 0 ≡ shownByte (p .ascii) (getD rec (p .start + i) 0)
+unfolding value Within
+value-at rec p i w h =
+    let n : i < length (take (p .width) (drop (p .start) rec)) = simp (length-take, length-drop) (omega arith) in
+    shown-at (p .ascii) (take (p .width) (drop (p .start) rec)) i n ∙ rw (getD-take, getD-drop)
+
+module _ (rec : List ℕ) (p : Place) (i : ℕ) (w : Within rec p) (h : i < p .width) where
+  pub value-translated : (r : ℕ) → p .ascii ≡ true → r ≡ ebcdic (getD rec (p .start + i) 0) → r ≡ getD (value rec p) i 0
+  value-translated r a e = e ∙ sym (value-at rec p i w h ∙ rw a)
+
+  pub value-plain : p .ascii ≡ false → getD rec (p .start + i) 0 ≡ getD (value rec p) i 0
+  value-plain a = sym (value-at rec p i w h ∙ rw a)
 
 -- a part that is the whole
 pub whole : (rec : List ℕ) (p : Place) (n : ℕ) → Within rec p → p .width ≡ n → slice 0 n (value rec p) ≡ value rec p
@@ -128,7 +139,7 @@ lowest-end rec p i low w h l =
     sym (l ∙ rw drop-of-length-le)
 
 -- the least byte decides
-above-min : (a x y : ℕ) → leb a (min x y) ≡ (leb a x and leb a y)
+pub above-min : (a x y : ℕ) → leb a (min x y) ≡ (leb a x and leb a y)
 unfolding _and_
 above-min a x y = go (leb a x) refl (leb a y) refl
   where
@@ -137,17 +148,12 @@ above-min a x y = go (leb a x) refl (leb a y) refl
     go true e false f = rw (e, f) (lt-leb a (min x y) (omega (arith, leb-false a y f)))
     go false e t f = rw e (lt-leb a (min x y) (omega (arith, leb-false a x e)))
 
-and-swap : (a b c : Bool) → ((a and b) and c) ≡ (b and (a and c))
+pub and-swap : (a b c : Bool) → ((a and b) and c) ≡ (b and (a and c))
 unfolding _and_
 and-swap true true c = refl
 and-swap true false c = refl
 and-swap false true c = refl
 and-swap false false c = refl
-
-and-true : (b : Bool) → (b and true) ≡ b
-unfolding _and_
-and-true true = refl
-and-true false = refl
 
 least-valid : (xs : List ℕ) (n : ℕ) → leb 0x40 (leastFrom n xs) ≡ (leb 0x40 n and every (λ (x : ℕ). leb 0x40 x) xs)
 unfolding leastFrom every

@@ -5,6 +5,7 @@ pub mod Same
 pub mod Copies
 pub mod Numbers
 pub mod Orders
+mod Sent
 pub mod Bracket
 pub mod Table
 pub mod CodeList

@@ -4,10 +4,11 @@ use mathlib.Core.List.{List}
 use lib.ListN.{length, take, drop}
 use Rattle.record.specs.declared.Field.{Field}
 use Rattle.record.specs.declared.Line.{Line}
+use Rattle.page.specs.CodePage.{shown}
 
--- the record's bytes as the rules see them (01 Bytes): in the base, the bytes that were sent
-unfoldable pub seen : Line → List ℕ → List ℕ
-seen line rec = rec
+-- the bytes of a record, or of several, as the rules see them (01 Bytes, 02 W2)
+abbrev pub seen : Line → List ℕ → List ℕ
+seen line bytes = shown (line .ascii) bytes
 
 -- the record is long enough for the field; positions count from 1 (01 Bytes)
 abbrev pub Has : List ℕ → Field → Type 0

@@ -35,13 +35,13 @@ fn frame_code(rec: &[u8], line: Line) -> Code
     requires { ⌜ 2 ≤ length (now rec) ⌝ }
     ensures { λ r. ⌜ r ≡ codeIn frames (held (seen line (now (rec .entry))) recordCode) ⌝ }
 {
-    if crate::field_is(rec, line, RECORD_CODE, b"\xC6\xC8") {
+    if crate::field_is(rec, line, RECORD_CODE, b"\xC6\xC8", b"FH") {
         return Code::FileHeader;
     }
-    if crate::field_is(rec, line, RECORD_CODE, b"\xC2\xE3") {
+    if crate::field_is(rec, line, RECORD_CODE, b"\xC2\xE3", b"BT") {
         return Code::BatchTrailer;
     }
-    if crate::field_is(rec, line, RECORD_CODE, b"\xC6\xE3") {
+    if crate::field_is(rec, line, RECORD_CODE, b"\xC6\xE3", b"FT") {
         return Code::FileTrailer;
     }
     Code::Unknown
@@ -52,19 +52,19 @@ fn batch_code(rec: &[u8], line: Line) -> Code
     requires { ⌜ 2 ≤ length (now rec) ⌝ }
     ensures { λ r. ⌜ r ≡ codeIn batches (held (seen line (now (rec .entry))) recordCode) ⌝ }
 {
-    if crate::field_is(rec, line, RECORD_CODE, b"\xC2\xD5") {
+    if crate::field_is(rec, line, RECORD_CODE, b"\xC2\xD5", b"BN") {
         return Code::Batch(Letter::N);
     }
-    if crate::field_is(rec, line, RECORD_CODE, b"\xC2\xC3") {
+    if crate::field_is(rec, line, RECORD_CODE, b"\xC2\xC3", b"BC") {
         return Code::Batch(Letter::C);
     }
-    if crate::field_is(rec, line, RECORD_CODE, b"\xC2\xE6") {
+    if crate::field_is(rec, line, RECORD_CODE, b"\xC2\xE6", b"BW") {
         return Code::Batch(Letter::W);
     }
-    if crate::field_is(rec, line, RECORD_CODE, b"\xC2\xC9") {
+    if crate::field_is(rec, line, RECORD_CODE, b"\xC2\xC9", b"BI") {
         return Code::Batch(Letter::I);
     }
-    if crate::field_is(rec, line, RECORD_CODE, b"\xC2\xC1") {
+    if crate::field_is(rec, line, RECORD_CODE, b"\xC2\xC1", b"BA") {
         return Code::Batch(Letter::A);
     }
     frame_code(rec, line)
@@ -75,19 +75,19 @@ fn detail_code(rec: &[u8], line: Line) -> Code
     requires { ⌜ 2 ≤ length (now rec) ⌝ }
     ensures { λ r. ⌜ r ≡ codeIn details (held (seen line (now (rec .entry))) recordCode) ⌝ }
 {
-    if crate::field_is(rec, line, RECORD_CODE, b"\xC4\xD5") {
+    if crate::field_is(rec, line, RECORD_CODE, b"\xC4\xD5", b"DN") {
         return Code::Detail(Letter::N);
     }
-    if crate::field_is(rec, line, RECORD_CODE, b"\xC4\xC3") {
+    if crate::field_is(rec, line, RECORD_CODE, b"\xC4\xC3", b"DC") {
         return Code::Detail(Letter::C);
     }
-    if crate::field_is(rec, line, RECORD_CODE, b"\xC4\xE6") {
+    if crate::field_is(rec, line, RECORD_CODE, b"\xC4\xE6", b"DW") {
         return Code::Detail(Letter::W);
     }
-    if crate::field_is(rec, line, RECORD_CODE, b"\xC4\xC9") {
+    if crate::field_is(rec, line, RECORD_CODE, b"\xC4\xC9", b"DI") {
         return Code::Detail(Letter::I);
     }
-    if crate::field_is(rec, line, RECORD_CODE, b"\xC4\xC1") {
+    if crate::field_is(rec, line, RECORD_CODE, b"\xC4\xC1", b"DA") {
         return Code::Detail(Letter::A);
     }
     batch_code(rec, line)
@@ -98,13 +98,13 @@ pub fn code_of(rec: &[u8], line: Line) -> Code
     requires { ⌜ 2 ≤ length (now rec) ⌝ }
     ensures { λ r. ⌜ r ≡ codeOf (seen line (now (rec .entry))) ⌝ }
 {
-    if crate::field_is(rec, line, RECORD_CODE, b"\xC4\xE7") {
+    if crate::field_is(rec, line, RECORD_CODE, b"\xC4\xE7", b"DX") {
         return Code::Party;
     }
-    if crate::field_is(rec, line, RECORD_CODE, b"\xC4\xE3") {
+    if crate::field_is(rec, line, RECORD_CODE, b"\xC4\xE3", b"DT") {
         return Code::Account;
     }
-    if crate::field_is(rec, line, RECORD_CODE, b"\xC4\xD7") {
+    if crate::field_is(rec, line, RECORD_CODE, b"\xC4\xD7", b"DP") {
         return Code::Procurement;
     }
     detail_code(rec, line)

@@ -9,6 +9,7 @@ ghost use mathlib.Core.Bool.{true};
 ghost use Prim.Native.Nat.{_-_, _<_, _≤_};
 ghost use lib.ListN.{getD};
 ghost use lib.Seq.{slice};
+ghost use Rattle.page.specs.CodePage.{twins};
 ghost use Rattle.record.specs.Value.{Has, seen, held};
 ghost use Rattle.record.specs.Tests.{blank, zeros, digits, valid, alike};
 ghost use Rattle.record.specs.Numeral.{numeral};
@@ -20,9 +21,10 @@ pub struct Field {
     pub width: usize,
 }
 
-// What is known of a record beside its bytes: its number in the file, which a finding names.
+// What is known of a record beside its bytes: its number in the file, which a finding names, and whether the file is ASCII.
 pub struct Line {
     pub number: usize,
+    pub ascii: bool,
 }
 
 // How a value stands to another in the order of bytes.
@@ -38,7 +40,7 @@ pub fn field_blank(rec: &[u8], line: Line, field: Field) -> bool
     ensures { λ r. ⌜ r ≡ blank (held (seen line (now (rec .entry))) field) ⌝ }
 {
     let place = place::locate(rec, line, field);
-    place::is_only(rec, place, 0x40)
+    place::is_only(rec, place, 0x40, 0x20)
 }
 
 // The field is all zeros.
@@ -47,7 +49,7 @@ pub fn field_zeros(rec: &[u8], line: Line, field: Field) -> bool
     ensures { λ r. ⌜ r ≡ zeros (held (seen line (now (rec .entry))) field) ⌝ }
 {
     let place = place::locate(rec, line, field);
-    place::is_only(rec, place, 0xF0)
+    place::is_only(rec, place, 0xF0, 0x30)
 }
 
 // No byte of the field is below hex 40.
@@ -59,13 +61,13 @@ pub fn field_valid(rec: &[u8], line: Line, field: Field) -> bool
     place::is_valid(rec, place)
 }
 
-// The field holds this text, byte for byte.
-pub fn field_is(rec: &[u8], line: Line, field: Field, text: &[u8]) -> bool
-    requires { ⌜ Has (now rec) field ⌝ }
+// The field holds this text, byte for byte; ASCII files send it as the second.
+pub fn field_is<'a>(rec: &[u8], line: Line, field: Field, text: &'a [u8], ascii: &'a [u8]) -> bool
+    requires { ⌜ Has (now rec) field × (twins (now ascii) (now text) ≡ true) ⌝ }
     ensures { λ r. ⌜ r ≡ alike (held (seen line (now (rec .entry))) field) (now (text .entry)) ⌝ }
 {
     let place = place::locate(rec, line, field);
-    place::is_text(rec, place, text)
+    place::is_text(rec, place, text, ascii)
 }
 
 // The field is all digits.

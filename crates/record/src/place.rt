@@ -2,22 +2,28 @@
 use crate::Field;
 use crate::Line;
 use crate::Order;
+use page::translate;
 ghost use mathlib.Core.Path.{_≡_};
 ghost use mathlib.Core.Bool.{true};
+ghost use mathlib.Core.List.{[], _∷_};
+ghost use lib.Dec.{leb};
 ghost use Prim.Native.Nat.{_-_, _<_, _≤_, min};
 ghost use lib.ListN.{getD};
 ghost use lib.Seq.{slice};
 ghost use Rattle.record.specs.Value.{Has};
-ghost use Rattle.record.specs.Place.{Within, value, PlaceOf};
-ghost use Rattle.record.specs.Tests.{only, digits, valid, alike};
+ghost use Rattle.page.specs.CodePage.{twins};
+ghost use Rattle.record.specs.Choice.{_or_, choose};
+ghost use Rattle.record.specs.Place.{Within, value, sent, near, leastPrintable, PlaceOf};
+ghost use Rattle.record.specs.Tests.{only, every, digits, valid, alike};
 ghost use Rattle.record.specs.Numeral.{numeral};
 ghost use Rattle.record.specs.Ordering.{order};
 ghost use Rattle.record.specs.Tests.{leastFrom};
 
-// Where a value stands: its first byte, counted from 0, and how many there are.
+// Where a value stands: its first byte, counted from 0, how many there are, and whether they are ASCII.
 pub(crate) struct Place {
     pub start: usize,
     pub width: usize,
+    pub ascii: bool,
 }
 
 // Where the field's value stands: the one function that looks for it.
@@ -28,6 +34,7 @@ pub(crate) fn locate(rec: &[u8], line: Line, field: Field) -> Place
     Place {
         start: field.start - 1,
         width: field.width,
+        ascii: line.ascii,
     }
 }
 
@@ -37,18 +44,41 @@ pub(crate) fn byte(rec: &[u8], place: Place, i: usize) -> u8
     ensures { λ r. ⌜ r ≡ getD (value (now (rec .entry)) place) i 0 ⌝ }
 {
     let at = place.start + i;
+    let sent = rec[at];
+    if place.ascii {
+        return translate(sent);
+    }
+    sent
+}
+
+// The value's byte at `i`, as it was sent.
+fn sent_byte(rec: &[u8], place: Place, i: usize) -> u8
+    requires { ⌜ Within (now rec) place × (i < place .width) ⌝ }
+    ensures { λ r. ⌜ r ≡ getD (sent (now (rec .entry)) place) i 0 ⌝ }
+{
+    let at = place.start + i;
     rec[at]
 }
 
-// Every byte of the value is `b`.
-pub(crate) fn is_only(rec: &[u8], place: Place, b: u8) -> bool
+// What a byte of the value that is seen as `b` was sent as: in ASCII as `ascii`.
+fn sent_as(place: Place, b: u8, ascii: u8) -> u8
+    ensures { λ r. ⌜ r ≡ choose (place .ascii) ascii b ⌝ }
+{
+    if place.ascii {
+        return ascii;
+    }
+    b
+}
+
+// Every byte at the place was sent as `b`.
+fn has_only(rec: &[u8], place: Place, b: u8) -> bool
     requires { ⌜ Within (now rec) place ⌝ }
-    ensures { λ r. ⌜ r ≡ only b (value (now (rec .entry)) place) ⌝ }
+    ensures { λ r. ⌜ r ≡ only b (sent (now (rec .entry)) place) ⌝ }
 {
     let n = place.width;
     let mut i = 0;
     while i < n {
-        if byte(rec, place, i) != b {
+        if sent_byte(rec, place, i) != b {
             return false;
         }
         i += 1;
@@ -56,23 +86,37 @@ pub(crate) fn is_only(rec: &[u8], place: Place, b: u8) -> bool
     true
 }
 
-// The bytes from `from` up to `to` are digits.
-pub(crate) fn are_digits(rec: &[u8], place: Place, from: usize, to: usize) -> bool
+// Every byte of the value is `b`, which ASCII files send as `ascii`: no byte is translated.
+pub(crate) fn is_only(rec: &[u8], place: Place, b: u8, ascii: u8) -> bool
+    requires { ⌜ Within (now rec) place × (twins (ascii ∷ []) (b ∷ []) ≡ true) ⌝ }
+    ensures { λ r. ⌜ r ≡ only b (value (now (rec .entry)) place) ⌝ }
+{
+    let wanted = sent_as(place, b, ascii);
+    has_only(rec, place, wanted)
+}
+
+// The bytes that were sent from `from` up to `to` are near this zero.
+fn are_near(rec: &[u8], place: Place, zero: u8, from: usize, to: usize) -> bool
     requires { ⌜ Within (now rec) place × (from ≤ to) × (to ≤ place .width) ⌝ }
-    ensures { λ r. ⌜ r ≡ digits (slice from to (value (now (rec .entry)) place)) ⌝ }
+    ensures { λ r. ⌜ r ≡ every (near zero) (slice from to (sent (now (rec .entry)) place)) ⌝ }
 {
     let mut i = from;
     while i < to {
-        let b = byte(rec, place, i);
-        if b < 0xF0 {
-            return false;
-        }
-        if 0xF9 < b {
+        if 9 < sent_byte(rec, place, i) ^ zero {
             return false;
         }
         i += 1;
     }
     true
+}
+
+// The bytes from `from` up to `to` are digits: no byte is translated.
+pub(crate) fn are_digits(rec: &[u8], place: Place, from: usize, to: usize) -> bool
+    requires { ⌜ Within (now rec) place × (from ≤ to) × (to ≤ place .width) ⌝ }
+    ensures { λ r. ⌜ r ≡ digits (slice from to (value (now (rec .entry)) place)) ⌝ }
+{
+    let zero = sent_as(place, 0xF0, 0x30);
+    are_near(rec, place, zero, from, to)
 }
 
 // What the digit at `i` counts, in a part that is digits.
@@ -80,7 +124,7 @@ fn digit(rec: &[u8], place: Place, from: usize, to: usize, i: usize) -> u64
     requires { ⌜ Within (now rec) place × (from ≤ i) × (i < to) × (to ≤ place .width) × (digits (slice from to (value (now rec) place)) ≡ true) ⌝ }
     ensures { λ r. ⌜ (r ≡ getD (value (now (rec .entry)) place) i 0 - 0xF0) × (r ≤ 9) ⌝ }
 {
-    let b = byte(rec, place, i) - 0xF0;
+    let b = sent_byte(rec, place, i) - sent_as(place, 0xF0, 0x30);
     b as u64
 }
 
@@ -108,33 +152,61 @@ fn lesser(a: u8, b: u8) -> u8
     b
 }
 
-// The least byte of the value, or hex FF where that is less: a reduction with no early exit, which the compiler turns into vector code.
+// The least byte that was sent, or hex FF where that is less: a reduction with no early exit, which the compiler turns into vector code.
 fn least_byte(rec: &[u8], place: Place) -> u8
     requires { ⌜ Within (now rec) place ⌝ }
-    ensures { λ r. ⌜ r ≡ leastFrom 0xFF (value (now (rec .entry)) place) ⌝ }
+    ensures { λ r. ⌜ r ≡ leastFrom 0xFF (sent (now (rec .entry)) place) ⌝ }
 {
     let n = place.width;
     let mut low: u8 = 0xFF;
     let mut i = 0;
     while i < n {
-        low = lesser(byte(rec, place, i), low);
+        low = lesser(sent_byte(rec, place, i), low);
         i += 1;
     }
     low
 }
 
-// No byte of the value is below hex 40.
+// The byte, or 0 where it is above 7E.
+fn printable(b: u8) -> u8
+    ensures { λ r. ⌜ r ≡ choose (leb b 0x7E) b 0 ⌝ }
+{
+    if b <= 0x7E {
+        return b;
+    }
+    0
+}
+
+// The least byte that was sent, those above 7E taken for 0: the same of ASCII.
+fn least_printable(rec: &[u8], place: Place) -> u8
+    requires { ⌜ Within (now rec) place ⌝ }
+    ensures { λ r. ⌜ r ≡ leastPrintable 0xFF (sent (now (rec .entry)) place) ⌝ }
+{
+    let n = place.width;
+    let mut low: u8 = 0xFF;
+    let mut i = 0;
+    while i < n {
+        low = lesser(printable(sent_byte(rec, place, i)), low);
+        i += 1;
+    }
+    low
+}
+
+// No byte of the value is below hex 40: in ASCII, all are 20 to 7E.
 pub(crate) fn is_valid(rec: &[u8], place: Place) -> bool
     requires { ⌜ Within (now rec) place ⌝ }
     ensures { λ r. ⌜ r ≡ valid (value (now (rec .entry)) place) ⌝ }
 {
+    if place.ascii {
+        return 0x20 <= least_printable(rec, place);
+    }
     0x40 <= least_byte(rec, place)
 }
 
-// The value is this text.
-pub(crate) fn is_text(rec: &[u8], place: Place, text: &[u8]) -> bool
+// The bytes that were sent are this text.
+fn has_text(rec: &[u8], place: Place, text: &[u8]) -> bool
     requires { ⌜ Within (now rec) place ⌝ }
-    ensures { λ r. ⌜ r ≡ alike (value (now (rec .entry)) place) (now (text .entry)) ⌝ }
+    ensures { λ r. ⌜ r ≡ alike (sent (now (rec .entry)) place) (now (text .entry)) ⌝ }
 {
     let n = place.width;
     if text.len() != n {
@@ -142,7 +214,7 @@ pub(crate) fn is_text(rec: &[u8], place: Place, text: &[u8]) -> bool
     }
     let mut i = 0;
     while i < n {
-        if byte(rec, place, i) != text[i] {
+        if sent_byte(rec, place, i) != text[i] {
             return false;
         }
         i += 1;
@@ -150,23 +222,23 @@ pub(crate) fn is_text(rec: &[u8], place: Place, text: &[u8]) -> bool
     true
 }
 
-// The two values are the same.
-pub(crate) fn is_same(rec: &[u8], place: Place, other: &[u8], there: Place) -> bool
-    requires { ⌜ Within (now rec) place × Within (now other) there ⌝ }
-    ensures { λ r. ⌜ r ≡ alike (value (now (rec .entry)) place) (value (now (other .entry)) there) ⌝ }
+// The text that is sent: the second in ASCII.
+fn sent_text<'a>(place: Place, text: &'a [u8], ascii: &'a [u8]) -> &'a [u8]
+    ensures { λ r. ⌜ now r ≡ choose (place .ascii) (now (ascii .entry)) (now (text .entry)) ⌝ }
 {
-    let n = place.width;
-    if there.width != n {
-        return false;
+    if place.ascii {
+        return ascii;
     }
-    let mut i = 0;
-    while i < n {
-        if byte(rec, place, i) != byte(other, there, i) {
-            return false;
-        }
-        i += 1;
-    }
-    true
+    text
+}
+
+// The value is this text, which is sent so in ASCII: no byte is translated.
+pub(crate) fn is_text<'a>(rec: &[u8], place: Place, text: &'a [u8], ascii: &'a [u8]) -> bool
+    requires { ⌜ Within (now rec) place × (twins (now ascii) (now text) ≡ true) ⌝ }
+    ensures { λ r. ⌜ r ≡ alike (value (now (rec .entry)) place) (now (text .entry)) ⌝ }
+{
+    let wanted = sent_text(place, text, ascii);
+    has_text(rec, place, wanted)
 }
 
 // The lesser of two widths.
@@ -179,8 +251,8 @@ fn shorter(a: usize, b: usize) -> usize
     b
 }
 
-// How the first value stands to the second in the order of bytes.
-pub(crate) fn compare(rec: &[u8], place: Place, other: &[u8], there: Place) -> Order
+// How the first value stands to the second in the order of bytes, byte by byte as they are seen.
+fn shown_order(rec: &[u8], place: Place, other: &[u8], there: Place) -> Order
     requires { ⌜ Within (now rec) place × Within (now other) there ⌝ }
     ensures { λ r. ⌜ r ≡ order (value (now (rec .entry)) place) (value (now (other .entry)) there) ⌝ }
 {
@@ -206,4 +278,66 @@ pub(crate) fn compare(rec: &[u8], place: Place, other: &[u8], there: Place) -> O
         return Order::After;
     }
     Order::Same
+}
+
+// The same of the bytes as they were sent.
+fn sent_order(rec: &[u8], place: Place, other: &[u8], there: Place) -> Order
+    requires { ⌜ Within (now rec) place × Within (now other) there ⌝ }
+    ensures { λ r. ⌜ r ≡ order (sent (now (rec .entry)) place) (sent (now (other .entry)) there) ⌝ }
+{
+    let n = place.width;
+    let m = there.width;
+    let shared = shorter(n, m);
+    let mut i = 0;
+    while i < shared {
+        let a = sent_byte(rec, place, i);
+        let b = sent_byte(other, there, i);
+        if a < b {
+            return Order::Before;
+        }
+        if b < a {
+            return Order::After;
+        }
+        i += 1;
+    }
+    if n < m {
+        return Order::Before;
+    }
+    if m < n {
+        return Order::After;
+    }
+    Order::Same
+}
+
+// One of the two.
+fn either(a: bool, b: bool) -> bool
+    ensures { λ r. ⌜ r ≡ (a or b) ⌝ }
+{
+    if a {
+        return true;
+    }
+    b
+}
+
+// How the first value stands to the second in the order of bytes.
+pub(crate) fn compare(rec: &[u8], place: Place, other: &[u8], there: Place) -> Order
+    requires { ⌜ Within (now rec) place × Within (now other) there ⌝ }
+    ensures { λ r. ⌜ r ≡ order (value (now (rec .entry)) place) (value (now (other .entry)) there) ⌝ }
+{
+    if either(place.ascii, there.ascii) {
+        return shown_order(rec, place, other, there);
+    }
+    sent_order(rec, place, other, there)
+}
+
+// The two values are the same.
+pub(crate) fn is_same(rec: &[u8], place: Place, other: &[u8], there: Place) -> bool
+    requires { ⌜ Within (now rec) place × Within (now other) there ⌝ }
+    ensures { λ r. ⌜ r ≡ alike (value (now (rec .entry)) place) (value (now (other .entry)) there) ⌝ }
+{
+    match shown_order(rec, place, other, there) {
+        Order::Before => false,
+        Order::Same => true,
+        Order::After => false,
+    }
 }

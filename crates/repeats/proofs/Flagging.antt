@@ -246,8 +246,8 @@ module _ (file : List ℕ) where
         let e : start + (length file / 850 - start) - start ≡ length file / 850 - start = omega arith in
         rw e
 
-    pub marked-all : (from : ℕ) (flags : List ℕ) → start * 850 + 850 ≤ length file → length file / 850 ≤ from → Marked file start from flags → flags ≡ flagsOf (numbersBefore file start) (numbersFrom file start)
-    marked-all from flags w h e = e ∙ marks-all from (length file / 850 - start) (omega arith) ∙ sym (ap (flagsOf (numbersBefore file start)) (from-start (omega arith)))
+    pub marked-all : (from records : ℕ) (flags : List ℕ) → start * 850 + 850 ≤ length file → records ≡ length file / 850 → records ≤ from → Marked file start from flags → flags ≡ flagsOf (numbersBefore file start) (numbersFrom file start)
+    marked-all from records flags w n h e = e ∙ marks-all from (length file / 850 - start) (omega arith) ∙ sym (ap (flagsOf (numbersBefore file start)) (from-start (omega arith)))
 
     pub marked-none : (flags before : List ℕ) → start * 850 + 850 ≤ length file → length before ≡ length (numbersFrom file start) → flags ≡ zeros (length before) → Marked file start 0 flags
     marked-none flags before w n e =
@@ -336,24 +336,29 @@ pub record InMarking (room : ℕ) (file : List ℕ) (start from place : ℕ) (ta
   pub indexed-next : kept ≡ length (numbers Batches (between 1 start (lesser next place) file))
   pub spread : Spread file start from next place flags
 
-module _ (file : List ℕ) (start from : ℕ) where
-  pub marking-begun : (table flags : List ℕ) (index : ℕ) → ltb 0 (length table) ≡ true → leb (length table) 65536 ≡ true → from < length file / 850 → Marked file start from flags → index ≡ length (numbers Batches (between 1 start from file))
-      → InMarking (length table) file start from from table 0 (length file / 850) index index flags
-  marking-begun table flags index r n h m i =
+module _ (file : List ℕ) (start from records : ℕ) (all : records ≡ length file / 850) where
+  pub marking-begun : (table flags : List ℕ) (index : ℕ) → ltb 0 (length table) ≡ true → leb (length table) 65536 ≡ true → from < records → Marked file start from flags → index ≡ length (numbers Batches (between 1 start from file))
+      → InMarking (length table) file start from from table 0 records index index flags
+  marking-begun table flags index r n l m i =
+      let h : from < length file / 850 = omega arith in
       let e : length file / 850 - (length file / 850 - from) ≡ from = omega arith in
-      record {
+      rw all
+      (record {
         filling = filling-none Batches 1 file from (length file / 850) table r n h;
         within = omega arith;
         indexed = i;
         indexed-next = rw e i;
         spread = spread-none file start from flags h m;
-      }
+      })
 
   module _ (room place : ℕ) (table : List ℕ) (count next kept index : ℕ) (flags : List ℕ) (b : InMarking room file start from place table count next kept index flags) where
     pub index-few : length file ≤ 65535 * 850 → index < 65536
     index-few u = omega (arith, b .indexed, b .within, numbers-few (between 1 start place file), cut-length (1 + start) (place - start) (drop (start * 850) file))
 
-    module _ (h : place < length file / 850) (u : length file ≤ 65535 * 850) where
+    module _ (l : place < records) (u : length file ≤ 65535 * 850) where
+      h : place < length file / 850
+      h = omega arith
+
       pub marking-stands : Stands 1 place file
       marking-stands = (omega arith, omega arith)
 
@@ -436,14 +441,14 @@ module _ (file : List ℕ) (start from : ℕ) where
         omega (arith, e, f, marks-place file start next place, marks-place file start from place)
 
     -- after the last record
-    pub marking-end : length file / 850 ≤ place → Marked file start next flags
+    pub marking-end : records ≤ place → Marked file start next flags
     marking-end h =
         let p : place ≡ length file / 850 = omega (arith, b .within) in
         let s = b .spread in
         let e : s .rest ≡ [] = nothing (marksTo file from start (length file / 850 - start)) (s .rest) (s .there ∙ rw p) in
         s .here ∙ rw (e, p, append-nil (marksTo file next start (length file / 850 - start)))
 
-    pub kept-end : length file / 850 ≤ place → kept ≡ length (numbers Batches (between 1 start next file))
+    pub kept-end : records ≤ place → kept ≡ length (numbers Batches (between 1 start next file))
     kept-end h =
         let e : next - (next - place) ≡ next = omega (arith, b .filling .last) in
         b .indexed-next ∙ rw e

@@ -9,11 +9,11 @@ use native.Mathlib.Omega.{arith}
 use lib.ListN.{length, getD, drop-of-length-le}
 use lib.Seq.{drop-cons}
 use Rattle.record.specs.declared.Field.{Field}
-use Rattle.record.specs.declared.Line.{Line}
 use Rattle.record.specs.declared.Order.{Order}
 use Rattle.record.specs.declared.Order.the-variants.{Before, Same, After}
 use Rattle.record.specs.Choice.{_or_}
-use Rattle.record.specs.Value.{Has, seen, held}
+use Rattle.page.specs.CodePage.{shown}
+use Rattle.record.specs.Value.{Has, held}
 use Rattle.record.specs.Tests.{alike}
 use Rattle.record.specs.Ordering.{order, isAfter}
 use Rattle.record.proofs.Held.{held-length}
@@ -32,38 +32,38 @@ unfolding isAfter
 below x y xs ys h = rw (before x y xs ys h)
 
 -- what is left from i on decides
-module _ (rec : List ℕ) (line : Line) (f : Field) (w : Has rec f) (ys : List ℕ) (n : length ys ≡ f .width) (i : ℕ) where
-  module _ (h : i < f .width) (x y : ℕ) (e : x ≡ getD (held (seen line rec) f) i 0) (g : y ≡ getD ys i 0) (l : Level (held (seen line rec) f) ys i) where
-    long : i < length (held (seen line rec) f)
-    long = omega (arith, held-length line rec f w)
+module _ (rec : List ℕ) (ascii : Bool) (f : Field) (w : Has rec f) (ys : List ℕ) (n : length ys ≡ f .width) (i : ℕ) where
+  module _ (h : i < f .width) (x y : ℕ) (e : x ≡ getD (held (shown ascii rec) f) i 0) (g : y ≡ getD ys i 0) (l : Level (held (shown ascii rec) f) ys i) where
+    long : i < length (held (shown ascii rec) f)
+    long = omega (arith, held-length ascii rec f w)
 
-    pub after-more : y < x → true ≡ isAfter (order (held (seen line rec) f) ys)
+    pub after-more : y < x → true ≡ isAfter (order (held (shown ascii rec) f) ys)
     unfolding Level
     after-more t =
         let a = long in
         let b : i < length ys = omega arith in
-        sym (ap isAfter l ∙ rw (drop-cons (held (seen line rec) f) i 0, drop-cons ys i 0) (above _ _ _ _ (omega arith)))
+        sym (ap isAfter l ∙ rw (drop-cons (held (shown ascii rec) f) i 0, drop-cons ys i 0) (above _ _ _ _ (omega arith)))
 
-    pub after-less : x < y → false ≡ isAfter (order (held (seen line rec) f) ys)
+    pub after-less : x < y → false ≡ isAfter (order (held (shown ascii rec) f) ys)
     unfolding Level
     after-less t =
         let a = long in
         let b : i < length ys = omega arith in
-        sym (ap isAfter l ∙ rw (drop-cons (held (seen line rec) f) i 0, drop-cons ys i 0) (below _ _ _ _ (omega arith)))
+        sym (ap isAfter l ∙ rw (drop-cons (held (shown ascii rec) f) i 0, drop-cons ys i 0) (below _ _ _ _ (omega arith)))
 
-    pub after-next : x ≤ y → y ≤ x → Level (held (seen line rec) f) ys (i + 1)
+    pub after-next : x ≤ y → y ≤ x → Level (held (shown ascii rec) f) ys (i + 1)
     unfolding Level
     after-next t u =
         let a = long in
         let b : i < length ys = omega arith in
-        l ∙ rw (add-one, drop-cons (held (seen line rec) f) i 0, drop-cons ys i 0) (level _ _ _ _ (omega arith) (omega arith))
+        l ∙ rw (add-one, drop-cons (held (shown ascii rec) f) i 0, drop-cons ys i 0) (level _ _ _ _ (omega arith) (omega arith))
 
-  pub after-end : f .width ≤ i → Level (held (seen line rec) f) ys i → false ≡ isAfter (order (held (seen line rec) f) ys)
+  pub after-end : f .width ≤ i → Level (held (shown ascii rec) f) ys i → false ≡ isAfter (order (held (shown ascii rec) f) ys)
   unfolding Level order isAfter
   after-end h l =
-      let a : length (held (seen line rec) f) ≤ i = omega (arith, held-length line rec f w) in
+      let a : length (held (shown ascii rec) f) ≤ i = omega (arith, held-length ascii rec f w) in
       let b : length ys ≤ i = omega arith in
-      sym (ap isAfter l ∙ rw (drop-of-length-le (held (seen line rec) f), drop-of-length-le ys))
+      sym (ap isAfter l ∙ rw (drop-of-length-le (held (shown ascii rec) f), drop-of-length-le ys))
 
 -- the order that the test tells
 not-after : (o : Order) → isAfter o ≡ false → o ≡ After → ⊥

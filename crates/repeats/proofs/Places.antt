@@ -8,6 +8,7 @@ use native.Mathlib.Omega.{arith}
 use lib.ListN.{length}
 use Rattle.record.specs.declared.Field.{Field}
 use Rattle.record.specs.declared.codes.Code.{Code}
+use Rattle.page.specs.CodePage.{shown}
 use Rattle.record.specs.Value.{held}
 use Rattle.record.specs.Tests.{alike}
 use Rattle.record.specs.Ordering.{order, isAfter}
@@ -19,14 +20,14 @@ use Rattle.repeats.specs.declared.Sort.the-variants.{Payments, Batches}
 use Rattle.repeats.specs.Repeats.{numbering, isOf}
 
 -- the record at the place is of the sort
-module _ (sort : Sort) (first place : ℕ) (xs : List ℕ) (k : Code) (r : Bool) (e : k ≡ codeOf (recordFrom xs (first + place) (place * 850))) where
-  pub of-payments : sort ≡ Payments → r ≡ isDetail k → r ≡ isOf sort (recordAt first place xs)
+module _ (sort : Sort) (ascii : Bool) (first place : ℕ) (xs : List ℕ) (k : Code) (r : Bool) (e : k ≡ codeOf (recordFrom ascii xs (place * 850))) where
+  pub of-payments : sort ≡ Payments → r ≡ isDetail k → r ≡ isOf sort (recordAt first place (shown ascii xs))
   unfolding isOf
-  of-payments s h = rw (s, ← from-place first place xs, ← e) h
+  of-payments s h = rw (s, ← from-place ascii first place xs, ← e) h
 
-  pub of-batches : sort ≡ Batches → r ≡ isHeader k → r ≡ isOf sort (recordAt first place xs)
+  pub of-batches : sort ≡ Batches → r ≡ isHeader k → r ≡ isOf sort (recordAt first place (shown ascii xs))
   unfolding isOf
-  of-batches s h = rw (s, ← from-place first place xs, ← e) h
+  of-batches s h = rw (s, ← from-place ascii first place xs, ← e) h
 
 -- the field of the sort, in the bytes of a record as the code takes them
 number-start : (sort : Sort) → 1 ≤ numbering sort .start
@@ -52,10 +53,11 @@ module _ (sort : Sort) (f : Field) (e : f ≡ numbering sort) where
   pub as-wide : (greatest : List ℕ) → length greatest ≡ numbering sort .width → length greatest ≡ f .width
   as-wide greatest h = rw e h
 
-  pub same-numbers : (first place earlier : ℕ) (xs : List ℕ) (r : Bool) → r ≡ alike (held (recordFrom xs (first + earlier) (earlier * 850)) f) (held (recordFrom xs (first + place) (place * 850)) f)
-      → r ≡ alike (held (recordAt first earlier xs) (numbering sort)) (held (recordAt first place xs) (numbering sort))
-  same-numbers first place earlier xs r h = h ∙ rw (from-place first earlier xs, from-place first place xs, e)
+  pub same-numbers : (ascii : Bool) (first place earlier : ℕ) (xs : List ℕ) (r : Bool)
+      → r ≡ alike (held (recordFrom ascii xs (earlier * 850)) f) (held (recordFrom ascii xs (place * 850)) f)
+      → r ≡ alike (held (recordAt first earlier (shown ascii xs)) (numbering sort)) (held (recordAt first place (shown ascii xs)) (numbering sort))
+  same-numbers ascii first place earlier xs r h = h ∙ rw (from-place ascii first earlier xs, from-place ascii first place xs, e)
 
-  pub after-number : (first place : ℕ) (xs greatest : List ℕ) (r : Bool) → r ≡ isAfter (order (held (recordFrom xs (first + place) (place * 850)) f) greatest)
-      → r ≡ isAfter (order (held (recordAt first place xs) (numbering sort)) greatest)
-  after-number first place xs greatest r h = h ∙ rw (from-place first place xs, e)
+  pub after-number : (ascii : Bool) (first place : ℕ) (xs greatest : List ℕ) (r : Bool) → r ≡ isAfter (order (held (recordFrom ascii xs (place * 850)) f) greatest)
+      → r ≡ isAfter (order (held (recordAt first place (shown ascii xs)) (numbering sort)) greatest)
+  after-number ascii first place xs greatest r h = h ∙ rw (from-place ascii first place xs, e)

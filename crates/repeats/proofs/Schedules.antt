@@ -3,12 +3,14 @@
 use mathlib.Core.Path.{_≡_, refl, sym, ap, _∙_}
 use mathlib.Core.Bool.{Bool, true, false, not, true≢false}
 use mathlib.Core.List.{List, _∷_, _++_, []}
-use Prim.Native.Nat.{ℕ, suc, _+_, _-_, _/_, _<_}
+use Prim.Native.Nat.{ℕ, suc, _+_, _-_, _*_, _/_, _<_, _≤_}
 use native.Mathlib.Omega.{arith}
 use lib.Dec.{eqb}
 use lib.ListN.{length, drop, getD}
 use Rattle.record.specs.Choice.{_and_, _or_, choose}
+use Rattle.page.specs.CodePage.{shown}
 use Rattle.record.specs.Ordering.{order, isAfter}
+use Rattle.page.proofs.Shown.{shown-length}
 use Rattle.nesting.specs.Records.{cut, recordAt}
 use Rattle.nesting.proofs.Cuts.{cut-onward, cut-snoc}
 use Rattle.repeats.specs.declared.Sort.the-variants.{Batches}
@@ -39,6 +41,17 @@ flags-length : (earlier later : List (List ℕ)) → length (flagsOf earlier lat
 unfolding flagsOf
 flags-length earlier [] = refl
 flags-length earlier (y ∷ ys) = ap suc (flags-length (earlier ++ y ∷ []) ys)
+
+-- where it stands among the bytes that were sent
+module _ (ascii : Bool) (sent : List ℕ) (place : ℕ) (flags : List ℕ) (b : Batched (shown ascii sent) place flags) where
+  pub batched-within : place * 850 + 850 ≤ length sent
+  batched-within = omega (arith, b .within, shown-length ascii sent)
+
+  pub batched-few : length sent ≤ 65535 * 850
+  batched-few = omega (arith, b .few, shown-length ascii sent)
+
+  pub batched-small : 1 + place < 131072
+  batched-small = omega (arith, b .within, b .few)
 
 module _ (file : List ℕ) (place : ℕ) {flags : List ℕ} (b : Batched file place flags) where
   -- the batch's number is the first from its place on, and the last before the next

@@ -13,6 +13,6 @@ climb-unique κs a r s x y p q = p ∙ sym q
 pub first-repeat-unique : OneResult first-repeat.Post
 first-repeat-unique κs a r s x y p q = p ∙ sym q
 
--- behind four arguments, `.0` is the flags afterwards
-pub number-batch-unique : (κs : _) (a : _) (r s : _) (x y : _) → number-batch.Post κs a r x → number-batch.Post κs a s y → (r ≡ s) × (now (x .1 .1 .1 .1 .0) ≡ now (y .1 .1 .1 .1 .0))
+-- behind five arguments, `.0` is the flags afterwards
+pub number-batch-unique : (κs : _) (a : _) (r s : _) (x y : _) → number-batch.Post κs a r x → number-batch.Post κs a s y → (r ≡ s) × (now (x .1 .1 .1 .1 .1 .0) ≡ now (y .1 .1 .1 .1 .1 .0))
 number-batch-unique κs a r s x y p q = (p .0 ∙ sym (q .0), p .1 ∙ sym (q .1))

@@ -4,11 +4,13 @@ use crate::Repeat;
 use crate::Sort;
 use crate::walk::is_of;
 use crate::walk::number_field;
+use record::Line;
 use tables::enter;
 ghost use mathlib.Core.Path.{_≡_};
 ghost use mathlib.Core.List.{[]};
 ghost use Prim.Native.Nat.{_*_, _/_, _<_, _≤_};
 ghost use lib.ListN.{length};
+ghost use Rattle.record.specs.Value.{seen};
 ghost use Rattle.nesting.specs.Records.{cut};
 ghost use Rattle.tables.specs.Tables.{Stands, Tabled};
 ghost use Rattle.repeats.specs.declared.Sort.the-variants.{Payments};
@@ -36,16 +38,16 @@ struct BlockEnd {
 // One record of the sort is looked up in the table, and entered where it is new and there is room.
 pub(crate) fn visit(
     file: &[u8],
-    first: usize,
+    first: Line,
     place: usize,
     sort: Sort,
     table: &mut [u16],
     count: usize,
     next: usize,
 ) -> Visited
-    requires { ⌜ Tabled first (numbering sort) (now file) (now table) count × Stands first place (now file) × (place < 65536) ⌝ }
-    ensures answer { λ r. ⌜ r ≡ visited sort first (now (file .entry)) (now (table .entry)) count place next ⌝ }
-    ensures after { λ r. ⌜ now (table .exit) ≡ tableVisited sort first (now (file .entry)) (now (table .entry)) count place ⌝ }
+    requires { ⌜ Tabled (first .number) (numbering sort) (seen first (now file)) (now table) count × Stands (first .number) place (now file) × (place < 65536) ⌝ }
+    ensures answer { λ r. ⌜ r ≡ visited sort (first .number) (seen first (now (file .entry))) (now (table .entry)) count place next ⌝ }
+    ensures after { λ r. ⌜ now (table .exit) ≡ tableVisited sort (first .number) (seen first (now (file .entry))) (now (table .entry)) count place ⌝ }
 {
     if !is_of(file, first, place, sort) {
         return Visited {
@@ -91,9 +93,9 @@ pub(crate) fn visit(
 
 // The first place before the best at which a detail has the ID of an earlier one of the block that begins at `from`, or the best; and the
 // first detail that the block has no room for, or the best.
-fn block(part: &[u8], first: usize, from: usize, best: usize) -> BlockEnd
-    requires { ⌜ (length (now part) ≤ 65535 * 850) × (first ≤ 65536) × (best * 850 ≤ length (now part)) × (from < best) ⌝ }
-    ensures { λ r. ⌜ Blocked first (now (part .entry)) from best (r .place) (r .next) ⌝ }
+fn block(part: &[u8], first: Line, from: usize, best: usize) -> BlockEnd
+    requires { ⌜ (length (now part) ≤ 65535 * 850) × (first .number ≤ 65536) × (best * 850 ≤ length (now part)) × (from < best) ⌝ }
+    ensures { λ r. ⌜ Blocked (first .number) (seen first (now (part .entry))) from best (r .place) (r .next) ⌝ }
 {
     let mut table = [0u16; TABLE];
     let mut count: usize = 0;
@@ -112,9 +114,9 @@ fn block(part: &[u8], first: usize, from: usize, best: usize) -> BlockEnd
 }
 
 // The first repeat: a record before the best has the ID of no record of the blocks so far that stands before it.
-pub(crate) fn first_by_blocks(part: &[u8], first: usize) -> Repeat
-    requires { ⌜ (length (now part) ≤ 65535 * 850) × (first ≤ 65536) ⌝ }
-    ensures { λ r. ⌜ r ≡ firstRepeat Payments first [] (cut first (length (now (part .entry)) / 850) (now (part .entry))) ⌝ }
+pub(crate) fn first_by_blocks(part: &[u8], first: Line) -> Repeat
+    requires { ⌜ (length (now part) ≤ 65535 * 850) × (first .number ≤ 65536) ⌝ }
+    ensures { λ r. ⌜ r ≡ firstRepeat Payments (first .number) [] (cut (first .number) (length (seen first (now (part .entry))) / 850) (seen first (now (part .entry)))) ⌝ }
 {
     let count = part.len() / 850;
     let mut best = count;
@@ -125,7 +127,8 @@ pub(crate) fn first_by_blocks(part: &[u8], first: usize) -> Repeat
         from = ended.next;
     }
     if best < count {
-        return Repeat::At(first + best);
+        let number = first.number + best;
+        return Repeat::At(number);
     }
     Repeat::Nowhere
 }

@@ -3,11 +3,13 @@
 use crate::Sort;
 use crate::blocks::TABLE;
 use crate::blocks::visit;
+use record::Line;
 ghost use mathlib.Core.Path.{_≡_};
 ghost use Prim.Native.Nat.{_+_, _*_, _/_, _<_, _≤_};
 ghost use lib.Dec.{ltb};
 ghost use lib.ListN.{length, set};
 ghost use Rattle.record.specs.Choice.{choose};
+ghost use Rattle.page.specs.CodePage.{shown};
 ghost use Rattle.repeats.specs.declared.Sort.the-variants.{Batches};
 ghost use Rattle.repeats.specs.Repeats.{numbers};
 ghost use Rattle.repeats.specs.Blocks.{between};
@@ -70,12 +72,20 @@ fn set_flag(flags: &mut [u8], index: usize, after: usize, known: bool)
 
 // One block of headers, from a place and the index of the first flag there on: every flag is set whose batch has the number of an earlier one in
 // the block. The next block begins at the first header that this one has no room for, or at the number of records.
-fn mark_block(file: &[u8], start: usize, from: usize, index: usize, flags: &mut [u8]) -> NextBlock
-    requires { ⌜ (length (now file) ≤ 65535 * 850) × (from < length (now file) / 850) × Marked (now file) start from (now flags) × (index ≡ length (numbers Batches (between 1 start from (now file)))) ⌝ }
+fn mark_block(
+    file: &[u8],
+    ascii: bool,
+    start: usize,
+    from: usize,
+    index: usize,
+    flags: &mut [u8],
+) -> NextBlock
+    requires { ⌜ (length (now file) ≤ 65535 * 850) × (from < length (now file) / 850) × Marked (shown ascii (now file)) start from (now flags) × (index ≡ length (numbers Batches (between 1 start from (shown ascii (now file))))) ⌝ }
     ensures ahead { λ r. ⌜ from < r .place ⌝ }
-    ensures after { λ r. ⌜ Marked (now (file .entry)) start (r .place) (now (flags .exit)) ⌝ }
-    ensures counted { λ r. ⌜ r .index ≡ length (numbers Batches (between 1 start (r .place) (now (file .entry)))) ⌝ }
+    ensures after { λ r. ⌜ Marked (shown ascii (now (file .entry))) start (r .place) (now (flags .exit)) ⌝ }
+    ensures counted { λ r. ⌜ r .index ≡ length (numbers Batches (between 1 start (r .place) (shown ascii (now (file .entry))))) ⌝ }
 {
+    let first = Line { number: 1, ascii };
     let records = file.len() / 850;
     let mut table = [0u16; TABLE];
     let mut count: usize = 0;
@@ -84,7 +94,7 @@ fn mark_block(file: &[u8], start: usize, from: usize, index: usize, flags: &mut 
     let mut flag = index;
     let mut place = from;
     while place < records {
-        let seen = visit(file, 1, place, Sort::Batches, &mut table, count, next);
+        let seen = visit(file, first, place, Sort::Batches, &mut table, count, next);
         let after = index_after(start, place, seen.own, flag);
         set_flag(flags, flag, after, seen.known);
         kept = kept_index(place, seen.next, kept, after);
@@ -101,14 +111,14 @@ fn mark_block(file: &[u8], start: usize, from: usize, index: usize, flags: &mut 
 
 // Marks each batch from the start on: 1 where an earlier batch of the file has its number, else 0. The first block stands apart: a function that
 // is called in two places keeps a frame of its own, so that its table is on the stack only while it runs.
-pub(crate) fn mark_batches(file: &[u8], start: usize, flags: &mut [u8])
-    requires { ⌜ (start * 850 + 850 ≤ length (now file)) × (length (now file) ≤ 65535 * 850) × (length (now flags) ≡ length (numbersFrom (now file) start)) ⌝ }
-    ensures { λ r. ⌜ now (flags .exit) ≡ flagsOf (numbersBefore (now (file .entry)) start) (numbersFrom (now (file .entry)) start) ⌝ }
+pub(crate) fn mark_batches(file: &[u8], ascii: bool, start: usize, flags: &mut [u8])
+    requires { ⌜ (start * 850 + 850 ≤ length (now file)) × (length (now file) ≤ 65535 * 850) × (length (now flags) ≡ length (numbersFrom (shown ascii (now file)) start)) ⌝ }
+    ensures { λ r. ⌜ now (flags .exit) ≡ flagsOf (numbersBefore (shown ascii (now (file .entry))) start) (numbersFrom (shown ascii (now (file .entry))) start) ⌝ }
 {
     clear(flags);
     let records = file.len() / 850;
-    let mut next = mark_block(file, start, 0, 0, flags);
+    let mut next = mark_block(file, ascii, start, 0, 0, flags);
     while next.place < records {
-        next = mark_block(file, start, next.place, next.index, flags);
+        next = mark_block(file, ascii, start, next.place, next.index, flags);
     }
 }

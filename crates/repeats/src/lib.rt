@@ -5,10 +5,13 @@ mod flags;
 mod sieve;
 mod walk;
 
+use record::Line;
 ghost use mathlib.Core.Path.{_≡_};
 ghost use mathlib.Core.List.{[]};
 ghost use Prim.Native.Nat.{_*_, _/_, _≤_};
 ghost use lib.ListN.{length};
+ghost use Rattle.page.specs.CodePage.{shown};
+ghost use Rattle.record.specs.Value.{seen};
 ghost use Rattle.nesting.specs.Records.{cut};
 ghost use Rattle.repeats.specs.declared.Sort.the-variants.{Payments};
 ghost use Rattle.repeats.specs.Repeats.{firstRepeat};
@@ -38,14 +41,15 @@ pub struct Numbering {
 // rise, none repeats; the first that does not has all batches from it on marked, each by a byte of the flags, and from then on the flags tell.
 pub fn number_batch(
     file: &[u8],
+    ascii: bool,
     place: usize,
     greatest: [u8; 14],
     marked: bool,
     flags: &mut [u8],
 ) -> Numbering
-    requires { ⌜ Batched (now file) place (now flags) × Noted (numbersBefore (now file) place) (numbersFrom (now file) place) greatest marked (now flags) ⌝ }
-    ensures answer { λ r. ⌜ r ≡ numbered (now (file .entry)) place greatest marked ⌝ }
-    ensures after { λ r. ⌜ now (flags .exit) ≡ flagged (now (file .entry)) place greatest marked (now (flags .entry)) ⌝ }
+    requires { ⌜ Batched (shown ascii (now file)) place (now flags) × Noted (numbersBefore (shown ascii (now file)) place) (numbersFrom (shown ascii (now file)) place) greatest marked (now flags) ⌝ }
+    ensures answer { λ r. ⌜ r ≡ numbered (shown ascii (now (file .entry))) place greatest marked ⌝ }
+    ensures after { λ r. ⌜ now (flags .exit) ≡ flagged (shown ascii (now (file .entry))) place greatest marked (now (flags .entry)) ⌝ }
 {
     if marked {
         let repeats = flags[0] == 1;
@@ -55,15 +59,16 @@ pub fn number_batch(
             marked,
         };
     }
-    if walk::is_after(file, 1, place, Sort::Batches, &greatest) {
-        let number = walk::schedule_number(file, 1, place);
+    let first = Line { number: 1, ascii };
+    if walk::is_after(file, first, place, Sort::Batches, &greatest) {
+        let number = walk::schedule_number(file, first, place);
         return Numbering {
             repeats: false,
             greatest: number,
             marked,
         };
     }
-    flags::mark_batches(file, place, flags);
+    flags::mark_batches(file, ascii, place, flags);
     let repeats = flags[0] == 1;
     Numbering {
         repeats,
@@ -74,9 +79,9 @@ pub fn number_batch(
 
 // The first record of the part that repeats an earlier Payment ID in it (01 Batch reasons, 6); the part's first record has the number
 // `first`.
-pub fn first_repeat(part: &[u8], first: usize) -> Repeat
-    requires { ⌜ (length (now part) ≤ 65535 * 850) × (first ≤ 65536) ⌝ }
-    ensures { λ r. ⌜ r ≡ firstRepeat Payments first [] (cut first (length (now (part .entry)) / 850) (now (part .entry))) ⌝ }
+pub fn first_repeat(part: &[u8], first: Line) -> Repeat
+    requires { ⌜ (length (now part) ≤ 65535 * 850) × (first .number ≤ 65536) ⌝ }
+    ensures { λ r. ⌜ r ≡ firstRepeat Payments (first .number) [] (cut (first .number) (length (seen first (now (part .entry))) / 850) (seen first (now (part .entry)))) ⌝ }
 {
     sieve::first_by_classes(part, first)
 }

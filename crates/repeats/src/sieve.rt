@@ -8,10 +8,12 @@ use crate::walk::is_of;
 use crate::walk::is_repeated;
 use crate::walk::payment_id;
 use numbers::wide;
+use record::Line;
 ghost use mathlib.Core.Path.{_≡_};
 ghost use mathlib.Core.List.{[]};
 ghost use Prim.Native.Nat.{_+_, _*_, _/_, _<_, _≤_};
 ghost use lib.ListN.{length};
+ghost use Rattle.record.specs.Value.{seen};
 ghost use Rattle.nesting.specs.Records.{cut, recordAt};
 ghost use Rattle.tables.specs.Tables.{Stands};
 ghost use Rattle.repeats.specs.declared.Sort.the-variants.{Payments};
@@ -117,15 +119,15 @@ fn give_marks(sieve: &mut [u64; 1024], hash: u64)
 // its marks after.
 fn sift(
     part: &[u8],
-    first: usize,
+    first: Line,
     place: usize,
     classes: u64,
     class: u64,
     sieve: &mut [u64; 1024],
 ) -> bool
-    requires { ⌜ Stands first place (now part) × (0 < classes) ⌝ }
-    ensures answer { λ r. ⌜ r ≡ isSuspect classes class (now (sieve .entry)) (recordAt first place (now (part .entry))) ⌝ }
-    ensures after { λ r. ⌜ now (sieve .exit) ≡ sifted classes class (now (sieve .entry)) (recordAt first place (now (part .entry))) ⌝ }
+    requires { ⌜ Stands (first .number) place (now part) × (0 < classes) ⌝ }
+    ensures answer { λ r. ⌜ r ≡ isSuspect classes class (now (sieve .entry)) (recordAt (first .number) place (seen first (now (part .entry)))) ⌝ }
+    ensures after { λ r. ⌜ now (sieve .exit) ≡ sifted classes class (now (sieve .entry)) (recordAt (first .number) place (seen first (now (part .entry)))) ⌝ }
 {
     if !is_of(part, first, place, Sort::Payments) {
         return false;
@@ -143,17 +145,17 @@ fn sift(
 // mark is new; a suspect is counted, and walked while the budget lasts.
 fn try_at(
     part: &[u8],
-    first: usize,
+    first: Line,
     place: usize,
     classes: u64,
     class: u64,
     walks: usize,
     sieve: &mut [u64; 1024],
 ) -> Trial
-    requires { ⌜ Stands first place (now part) × (0 < classes) × (walks ≤ mostWalks) × (length (now sieve) ≡ 1024) × AllMarked classes class (now sieve) (cut first place (now part)) ⌝ }
-    ensures answer { λ r. ⌜ Tried classes class first (now (part .entry)) place (r .stops) (r .walks) ⌝ }
+    requires { ⌜ Stands (first .number) place (now part) × (0 < classes) × (walks ≤ mostWalks) × (length (now sieve) ≡ 1024) × AllMarked classes class (now sieve) (cut (first .number) place (seen first (now part))) ⌝ }
+    ensures answer { λ r. ⌜ Tried classes class (first .number) (seen first (now (part .entry))) place (r .stops) (r .walks) ⌝ }
     ensures size { λ r. ⌜ length (now (sieve .exit)) ≡ 1024 ⌝ }
-    ensures after { λ r. ⌜ AllMarked classes class (now (sieve .exit)) (cut first (place + 1) (now (part .entry))) ⌝ }
+    ensures after { λ r. ⌜ AllMarked classes class (now (sieve .exit)) (cut (first .number) (place + 1) (seen first (now (part .entry)))) ⌝ }
 {
     if !sift(part, first, place, classes, class, sieve) {
         return Trial {
@@ -171,9 +173,9 @@ fn try_at(
 
 // The first place before the best at which a detail of the class repeats an earlier one; else the best. A pass that meets too many
 // suspects gives up, and its place says nothing.
-fn pass(part: &[u8], first: usize, classes: u64, class: u64, best: usize, walks: usize) -> Passing
-    requires { ⌜ (length (now part) ≤ 65535 * 850) × (first ≤ 65536) × (best * 850 ≤ length (now part)) × (0 < classes) × (walks ≤ mostWalks) ⌝ }
-    ensures { λ r. ⌜ (r .walks ≤ mostWalks → Passed classes class first (now (part .entry)) best (r .place)) ⌝ }
+fn pass(part: &[u8], first: Line, classes: u64, class: u64, best: usize, walks: usize) -> Passing
+    requires { ⌜ (length (now part) ≤ 65535 * 850) × (first .number ≤ 65536) × (best * 850 ≤ length (now part)) × (0 < classes) × (walks ≤ mostWalks) ⌝ }
+    ensures { λ r. ⌜ (r .walks ≤ mostWalks → Passed classes class (first .number) (seen first (now (part .entry))) best (r .place)) ⌝ }
 {
     let mut sieve = [0u64; 1024];
     let mut walks = walks;
@@ -193,9 +195,9 @@ fn pass(part: &[u8], first: usize, classes: u64, class: u64, best: usize, walks:
 // share a sieve of 65,536 bits, and a new ID meets seven marks of others about once in 1,250 times near the end of a pass. A batch of more
 // suspects than the budget has walks, as IDs of one hash make it, is sought by blocks. The first class stands apart: a function that is called in
 // two places keeps a frame of its own, so that the sieve is on the stack only while it is used, and not while a batch is walked.
-pub(crate) fn first_by_classes(part: &[u8], first: usize) -> Repeat
-    requires { ⌜ (length (now part) ≤ 65535 * 850) × (first ≤ 65536) ⌝ }
-    ensures { λ r. ⌜ r ≡ firstRepeat Payments first [] (cut first (length (now (part .entry)) / 850) (now (part .entry))) ⌝ }
+pub(crate) fn first_by_classes(part: &[u8], first: Line) -> Repeat
+    requires { ⌜ (length (now part) ≤ 65535 * 850) × (first .number ≤ 65536) ⌝ }
+    ensures { λ r. ⌜ r ≡ firstRepeat Payments (first .number) [] (cut (first .number) (length (seen first (now (part .entry))) / 850) (seen first (now (part .entry)))) ⌝ }
 {
     let count = part.len() / 850;
     let classes = (count / 8192) as u64 + 1;
@@ -216,7 +218,7 @@ pub(crate) fn first_by_classes(part: &[u8], first: usize) -> Repeat
         class += 1;
     }
     if best < count {
-        let number = first + best;
+        let number = first.number + best;
         return Repeat::At(number);
     }
     Repeat::Nowhere

@@ -29,14 +29,15 @@ pub(crate) fn number_field(sort: Sort) -> Field
 }
 
 // The record at the place is one of those that the sort numbers.
-pub(crate) fn is_of(file: &[u8], first: usize, place: usize, sort: Sort) -> bool
-    requires { ⌜ Stands first place (now file) ⌝ }
-    ensures { λ r. ⌜ r ≡ isOf sort (recordAt first place (now (file .entry))) ⌝ }
+pub(crate) fn is_of(file: &[u8], first: Line, place: usize, sort: Sort) -> bool
+    requires { ⌜ Stands (first .number) place (now file) ⌝ }
+    ensures { λ r. ⌜ r ≡ isOf sort (recordAt (first .number) place (seen first (now (file .entry)))) ⌝ }
 {
     let at = place * 850;
     let end = at + 850;
-    let number = first + place;
-    let code = code_of(&file[at..end], Line { number });
+    let number = first.number + place;
+    let ascii = first.ascii;
+    let code = code_of(&file[at..end], Line { number, ascii });
     match sort {
         Sort::Payments => is_detail(code),
         Sort::Batches => is_header(code),
@@ -44,34 +45,35 @@ pub(crate) fn is_of(file: &[u8], first: usize, place: usize, sort: Sort) -> bool
 }
 
 // The record at the earlier place is of the sort, and has the number of the record at the place.
-fn agrees(file: &[u8], first: usize, earlier: usize, place: usize, sort: Sort) -> bool
-    requires { ⌜ Stands first earlier (now file) × Stands first place (now file) ⌝ }
-    ensures { λ r. ⌜ r ≡ (isOf sort (recordAt first earlier (now (file .entry))) and alike (held (recordAt first earlier (now (file .entry))) (numbering sort)) (held (recordAt first place (now (file .entry))) (numbering sort))) ⌝ }
+fn agrees(file: &[u8], first: Line, earlier: usize, place: usize, sort: Sort) -> bool
+    requires { ⌜ Stands (first .number) earlier (now file) × Stands (first .number) place (now file) ⌝ }
+    ensures { λ r. ⌜ r ≡ (isOf sort (recordAt (first .number) earlier (seen first (now (file .entry)))) and alike (held (recordAt (first .number) earlier (seen first (now (file .entry)))) (numbering sort)) (held (recordAt (first .number) place (seen first (now (file .entry)))) (numbering sort))) ⌝ }
 {
     if !is_of(file, first, earlier, sort) {
         return false;
     }
     let from = earlier * 850;
     let to = from + 850;
-    let number = first + earlier;
+    let number = first.number + earlier;
     let at = place * 850;
     let end = at + 850;
-    let own = first + place;
+    let own = first.number + place;
+    let ascii = first.ascii;
     let field = number_field(sort);
     record::fields_same(
         &file[from..to],
-        Line { number },
+        Line { number, ascii },
         field,
         &file[at..end],
-        Line { number: own },
+        Line { number: own, ascii },
         field,
     )
 }
 
 // The record at the place is of the sort and has the number of an earlier one (01 Batch reasons, 6).
-pub(crate) fn is_repeated(file: &[u8], first: usize, place: usize, sort: Sort) -> bool
-    requires { ⌜ Stands first place (now file) ⌝ }
-    ensures { λ r. ⌜ r ≡ repeats sort (cut first place (now (file .entry))) (recordAt first place (now (file .entry))) ⌝ }
+pub(crate) fn is_repeated(file: &[u8], first: Line, place: usize, sort: Sort) -> bool
+    requires { ⌜ Stands (first .number) place (now file) ⌝ }
+    ensures { λ r. ⌜ r ≡ repeats sort (cut (first .number) place (seen first (now (file .entry)))) (recordAt (first .number) place (seen first (now (file .entry)))) ⌝ }
 {
     if !is_of(file, first, place, sort) {
         return false;
@@ -108,27 +110,29 @@ pub(crate) fn stands_after(rec: &[u8], line: Line, field: Field, greatest: &[u8]
 }
 
 // The number of the record at the place stands after the greatest.
-pub(crate) fn is_after(file: &[u8], first: usize, place: usize, sort: Sort, greatest: &[u8]) -> bool
-    requires { ⌜ Stands first place (now file) × (length (now greatest) ≡ numbering sort .width) ⌝ }
-    ensures { λ r. ⌜ r ≡ isAfter (order (held (recordAt first place (now (file .entry))) (numbering sort)) (now (greatest .entry))) ⌝ }
+pub(crate) fn is_after(file: &[u8], first: Line, place: usize, sort: Sort, greatest: &[u8]) -> bool
+    requires { ⌜ Stands (first .number) place (now file) × (length (now greatest) ≡ numbering sort .width) ⌝ }
+    ensures { λ r. ⌜ r ≡ isAfter (order (held (recordAt (first .number) place (seen first (now (file .entry)))) (numbering sort)) (now (greatest .entry))) ⌝ }
 {
     let at = place * 850;
     let end = at + 850;
-    let number = first + place;
+    let number = first.number + place;
+    let ascii = first.ascii;
     let field = number_field(sort);
-    stands_after(&file[at..end], Line { number }, field, greatest)
+    stands_after(&file[at..end], Line { number, ascii }, field, greatest)
 }
 
 // The schedule number of the record at the place (004 field 6).
-pub(crate) fn schedule_number(file: &[u8], first: usize, place: usize) -> [u8; 14]
-    requires { ⌜ Stands first place (now file) ⌝ }
-    ensures { λ r. ⌜ r ≡ held (recordAt first place (now (file .entry))) (numbering Batches) ⌝ }
+pub(crate) fn schedule_number(file: &[u8], first: Line, place: usize) -> [u8; 14]
+    requires { ⌜ Stands (first .number) place (now file) ⌝ }
+    ensures { λ r. ⌜ r ≡ held (recordAt (first .number) place (seen first (now (file .entry)))) (numbering Batches) ⌝ }
 {
     let at = place * 850;
     let end = at + 850;
     let rec = &file[at..end];
-    let number = first + place;
-    let line = Line { number };
+    let number = first.number + place;
+    let ascii = first.ascii;
+    let line = Line { number, ascii };
     let mut copy = [0u8; 14];
     let mut i: usize = 0;
     while i < 14 {
@@ -153,12 +157,13 @@ pub(crate) fn id_of(rec: &[u8], line: Line) -> [u8; 20]
 }
 
 // The Payment ID of the record at the place.
-pub(crate) fn payment_id(file: &[u8], first: usize, place: usize) -> [u8; 20]
-    requires { ⌜ Stands first place (now file) ⌝ }
-    ensures { λ r. ⌜ r ≡ held (recordAt first place (now (file .entry))) (numbering Payments) ⌝ }
+pub(crate) fn payment_id(file: &[u8], first: Line, place: usize) -> [u8; 20]
+    requires { ⌜ Stands (first .number) place (now file) ⌝ }
+    ensures { λ r. ⌜ r ≡ held (recordAt (first .number) place (seen first (now (file .entry)))) (numbering Payments) ⌝ }
 {
     let at = place * 850;
     let end = at + 850;
-    let number = first + place;
-    id_of(&file[at..end], Line { number })
+    let number = first.number + place;
+    let ascii = first.ascii;
+    id_of(&file[at..end], Line { number, ascii })
 }

@@ -3,9 +3,11 @@
 use mathlib.Core.Path.{_≡_, ap, _∙_}
 use mathlib.Core.Bool.{Bool}
 use mathlib.Core.List.{List}
-use Prim.Native.Nat.{ℕ, _+_, _*_, _/_, _<_, _≤_}
+use Prim.Native.Nat.{ℕ, _+_, _-_, _*_, _/_, _<_, _≤_}
 use native.Mathlib.Omega.{arith}
-use lib.ListN.{length}
+use lib.ListN.{length, take, drop}
+use Rattle.page.specs.CodePage.{shown}
+use Rattle.page.proofs.Shown.{shown-length, shown-take, shown-drop}
 use Rattle.book.specs.Book.{Contents}
 use Rattle.nesting.specs.Division.{batchLines}
 use Rattle.batch.specs.declared.Row.{Row}
@@ -14,7 +16,10 @@ use Rattle.rows.specs.Report.{batchRow}
 use Rattle.rows.specs.Standing.{Opens, judged, IsJudged}
 use Rattle.rows.proofs.Places.{restOf, rest, counted, batch-of, judgeable}
 
-module _ {f : List ℕ} {place : ℕ} (s : Opens f place) where
+module _ (ascii : Bool) (sent : List ℕ) {place : ℕ} (s : Opens (shown ascii sent) place) where
+  abbrev f : List ℕ
+  f = shown ascii sent
+
   size : place + length (batchLines (s .batch)) + length (rest (s .cuttable) (s .stands)) ≡ length f / 850
   size = counted (s .cuttable) (s .stands)
 
@@ -22,13 +27,20 @@ module _ {f : List ℕ} {place : ℕ} (s : Opens f place) where
   pub opens-few : place < 65535
   opens-few = omega (arith, size, s .cuttable .few)
 
-  pub opens-start : place * 850 ≤ length f
-  opens-start = omega (arith, size)
+  pub opens-start : place * 850 ≤ length sent
+  opens-start = omega (arith, size, shown-length ascii sent)
 
-  pub opens-judgeable : Judgeable (place + 1) (restOf f place)
-  opens-judgeable = judgeable (s .cuttable) (s .stands)
+  -- the rest of the file as the rules see it
+  rest-is : shown ascii (restOf sent place) ≡ restOf f place
+  rest-is = rw (shown-length ascii sent) (shown-take ascii (length sent - place * 850) (drop (place * 850) sent) ∙ ap (take (length sent - place * 850)) (shown-drop ascii (place * 850) sent))
 
-  module _ (book : Contents) (repeats : Bool) (row : Row) (r : IsRow book repeats (place + 1) (restOf f place) row) where
+  pub opens-judgeable : Judgeable (place + 1) (shown ascii (restOf sent place))
+  opens-judgeable = rw rest-is (judgeable (s .cuttable) (s .stands))
+
+  module _ (book : Contents) (repeats : Bool) (row : Row) (told : IsRow book repeats (place + 1) (shown ascii (restOf sent place)) row) where
+    r : IsRow book repeats (place + 1) (restOf f place) row
+    r = rw rest-is at told
+
     -- the batch's end
     pub ends-few : place + row .records ≤ 65535
     unfolding rowOf

@@ -93,8 +93,7 @@ module _ {f : List ℕ} (w : Cuttable f) {place : ℕ} {earlier : List Batch} {b
   header-is : recordAt 1 place f ≡ b .header
   unfolding recordAt cut
   header-is =
-      let p : 1 + place ≡ place + 1 = omega arith in
-      rw (p, ← take-take 850 (length (batchLines b) * 850) (drop (place * 850) f) (omega arith)) (ap (λ (rs : List Record). getD rs 0 []) part)
+      rw (← take-take 850 (length (batchLines b) * 850) (drop (place * 850) f) (omega arith)) (ap (λ (rs : List Record). getD rs 0 []) part)
 
   -- the schedule numbers before it
   schedules-before : numbers Batches (cut 1 place f) ≡ map scheduleOf earlier

@@ -206,7 +206,7 @@ module _ {book : Contents} {file : List ℕ} {payments batches : ℕ} {first rep
 
 -- the head is written, and what the file's division comes to is what it says
 module _ {file : List ℕ} {payments : ℕ} {total : Amount} {batches : ℕ} {before head first : List ℕ} (w : Writable file payments total batches before)
-    (e : head ≡ headRow (length file / 850) payments total batches) (p : first ≡ over before 0 (rowBytes head)) where
+    {count : ℕ} (n : count ≡ length file / 850) (e : head ≡ headRow count payments total batches) (p : first ≡ over before 0 (rowBytes head)) where
   head-eight : length head ≡ 8
   unfolding headRow
   head-eight = ap length e
@@ -216,7 +216,7 @@ module _ {file : List ℕ} {payments : ℕ} {total : Amount} {batches : ℕ} {be
   head-is d h =
       let o : w .division ≡ d = one-division (records file) (w .division) d (w .divided) h in
       let l : length file / 850 ≡ length (lines d) = sym (ap length (h .whole) ∙ cut-length 1 (length file / 850) file) in
-      e ∙ rw (l, ← w .paid, ← w .summed, ← w .count, o)
+      e ∙ rw (n, l, ← w .paid, ← w .summed, ← w .count, o)
 
   head-kept : length first ≡ length before
   head-kept = rw p (over-length before 0 (rowBytes head) (rw (row-length head head-eight) (omega (arith, head-room batches (length before) (w .room)))))

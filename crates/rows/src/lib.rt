@@ -2,8 +2,10 @@
 use batch::Row;
 use book::Book;
 use money::Amount;
+use record::Line;
 use repeats::Numbering;
 ghost use mathlib.Core.Path.{_≡_};
+ghost use Rattle.page.specs.CodePage.{shown};
 ghost use Rattle.book.specs.Book.{Usable, listedAt};
 ghost use Rattle.report.specs.Rows.{over};
 ghost use Rattle.repeats.specs.Schedules.{numbered, flagged};
@@ -54,6 +56,7 @@ fn batch_numbers(row: Row) -> [u64; 8]
 // their rows: each row is written after its own flag is read, and before those behind it.
 fn number_next(
     file: &[u8],
+    ascii: bool,
     place: usize,
     greatest: [u8; 14],
     marked: bool,
@@ -61,21 +64,29 @@ fn number_next(
     written: usize,
     report: &mut [u8],
 ) -> Numbering
-    requires { ⌜ Numberable (now file) place greatest marked batches written (now report) ⌝ }
-    ensures answer { λ r. ⌜ r ≡ numbered (now (file .entry)) place greatest marked ⌝ }
-    ensures after { λ r. ⌜ now (report .exit) ≡ over (now (report .entry)) (flagsAt batches written) (flagged (now (file .entry)) place greatest marked (flagsIn batches written (now (report .entry)))) ⌝ }
+    requires { ⌜ Numberable (shown ascii (now file)) place greatest marked batches written (now report) ⌝ }
+    ensures answer { λ r. ⌜ r ≡ numbered (shown ascii (now (file .entry))) place greatest marked ⌝ }
+    ensures after { λ r. ⌜ now (report .exit) ≡ over (now (report .entry)) (flagsAt batches written) (flagged (shown ascii (now (file .entry))) place greatest marked (flagsIn batches written (now (report .entry)))) ⌝ }
 {
     let end = report::room_for(batches);
     let from = end - (batches - written);
-    repeats::number_batch(file, place, greatest, marked, &mut report[from..end])
+    repeats::number_batch(file, ascii, place, greatest, marked, &mut report[from..end])
 }
 
 // Judges the batch that begins after so many records; an earlier batch has its schedule number, or not.
-fn judge_next(file: &[u8], book: &[u8], shelves: Book, place: usize, repeats: bool) -> Judged
-    requires { ⌜ Usable (now book) shelves × Opens (now file) place ⌝ }
-    ensures { λ r. ⌜ IsJudged (listedAt (now (book .entry)) shelves) (now (file .entry)) repeats place r ⌝ }
+fn judge_next(
+    file: &[u8],
+    ascii: bool,
+    book: &[u8],
+    shelves: Book,
+    place: usize,
+    repeats: bool,
+) -> Judged
+    requires { ⌜ Usable (now book) shelves × Opens (shown ascii (now file)) place ⌝ }
+    ensures { λ r. ⌜ IsJudged (listedAt (now (book .entry)) shelves) (shown ascii (now (file .entry))) repeats place r ⌝ }
 {
-    let first = place + 1;
+    let number = place + 1;
+    let first = Line { number, ascii };
     let at = place * 850;
     let row = batch::judge_batch(book, shelves, &file[at..], first, repeats);
     let numbers = batch_numbers(row);
@@ -86,10 +97,11 @@ fn judge_next(file: &[u8], book: &[u8], shelves: Book, place: usize, repeats: bo
     }
 }
 
-// Writes the report of a file that nests (01 Report): the head, then a row for each batch in file order, rejected or not. No byte past the
+// Writes the report of a file that nests, ASCII or not (01 Report): the head, then a row for each batch in file order, rejected or not. No byte past the
 // last row is touched.
 pub fn write_rows(
     file: &[u8],
+    ascii: bool,
     book: &[u8],
     shelves: Book,
     payments: usize,
@@ -97,8 +109,8 @@ pub fn write_rows(
     batches: usize,
     report: &mut [u8],
 )
-    requires { ⌜ Usable (now book) shelves × Writable (now file) payments total batches (now report) ⌝ }
-    ensures { λ r. ⌜ Written (listedAt (now (book .entry)) shelves) (now (file .entry)) (now (report .entry)) (now (report .exit)) ⌝ }
+    requires { ⌜ Usable (now book) shelves × Writable (shown ascii (now file)) payments total batches (now report) ⌝ }
+    ensures { λ r. ⌜ Written (listedAt (now (book .entry)) shelves) (shown ascii (now (file .entry))) (now (report .entry)) (now (report .exit)) ⌝ }
 {
     let records = file.len() / 850;
     let head = head_numbers(records, payments, total, batches);
@@ -108,8 +120,17 @@ pub fn write_rows(
     let mut place: usize = 1;
     let mut written: usize = 0;
     while written < batches {
-        let number = number_next(file, place, greatest, marked, batches, written, report);
-        let judged = judge_next(file, book, shelves, place, number.repeats);
+        let number = number_next(
+            file,
+            ascii,
+            place,
+            greatest,
+            marked,
+            batches,
+            written,
+            report,
+        );
+        let judged = judge_next(file, ascii, book, shelves, place, number.repeats);
         let numbers = judged.numbers;
         let at = report::row_at(written);
         report::write_row(report, at, numbers);

@@ -33,7 +33,7 @@ fn start_c(known: Finding, rec: &[u8], line: Line, context: Context) -> Finding
     ensures { λ r. ⌜ r ≡ after known (findings context (line .number) (seen line (now (rec .entry))) (rows 23 25 C detail)) ⌝ }
 {
     let symbol = context.symbol;
-    let voided = record::field_is(rec, line, IS_VOIDED_CHECK, b"\xF1");
+    let voided = record::field_is(rec, line, IS_VOIDED_CHECK, b"\xF1", b"1");
     let reason_23 = checks::composed(
         rec,
         line,

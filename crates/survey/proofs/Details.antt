@@ -6,12 +6,12 @@ use mathlib.Core.List.{List, [], _∷_, _++_}
 use Prim.Native.Nat.{ℕ, _+_, _<_, _≤_}
 use native.Mathlib.Omega.{arith}
 use lib.ListN.{length}
-use Rattle.record.specs.declared.Line.{Line}
 use Rattle.record.specs.declared.codes.Code.{Code}
 use Rattle.record.specs.declared.codes.Code.the-variants as code
 use Rattle.record.specs.Choice.{choose}
 use Rattle.record.specs.Fields.{amount}
-use Rattle.record.specs.Value.{seen, held}
+use Rattle.page.specs.CodePage.{shown}
+use Rattle.record.specs.Value.{held}
 use Rattle.record.specs.Codes.{codeOf, codeBytes, isDetail}
 use Rattle.record.proofs.Held.{held-length}
 use Rattle.money.specs.declared.Amount.{Amount}
@@ -33,12 +33,12 @@ module _ (r : Record) (k : Code) (e : k ≡ codeOf r) (t : Bool) (h : t ≡ isDe
   no-amount y = rw (← e, ← h, y)
 
 -- a record adds less than 10^20 cents
-pub cents-small : (line : Line) (rec : List ℕ) → 850 ≤ length rec → detailCents (seen line rec) < 100000000000000000000
+pub cents-small : (ascii : Bool) (rec : List ℕ) → 850 ≤ length rec → detailCents (shown ascii rec) < 100000000000000000000
 unfolding choose
-cents-small line rec h = go (isDetail (codeOf (seen line rec)))
+cents-small ascii rec h = go (isDetail (codeOf (shown ascii rec)))
   where
-    go : (b : Bool) → choose b (cents (held (seen line rec) amount)) 0 < 100000000000000000000
-    go true = cents-below _ (omega (arith, held-length line rec amount (omega arith, omega (arith, h))))
+    go : (b : Bool) → choose b (cents (held (shown ascii rec) amount)) 0 < 100000000000000000000
+    go true = cents-below _ (omega (arith, held-length ascii rec amount (omega arith, omega (arith, h))))
     go false = omega arith
 
 -- a record that is no detail adds nothing

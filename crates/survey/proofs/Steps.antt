@@ -1,17 +1,18 @@
 -- A step of the pass: what it comes to, and the room that it needs and leaves.
 -- Assumes nothing.
 use mathlib.Core.Path.{_≡_, _∙_}
+use mathlib.Core.Bool.{Bool}
 use mathlib.Core.List.{List}
 use Prim.Native.Nat.{ℕ, _+_, _<_, _≤_}
 use native.Mathlib.Omega.{arith}
 use lib.Dec.{eqb}
 use lib.ListN.{length}
-use Rattle.record.specs.declared.Line.{Line}
 use Rattle.record.specs.declared.codes.Code.{Code}
 use Rattle.record.specs.declared.codes.Code.the-variants.{FileHeader, Batch, Detail, Party, Account, Procurement, BatchTrailer, FileTrailer, Unknown}
 use Rattle.record.specs.Choice.{choose}
 use Rattle.record.specs.Fields.{paymentId}
-use Rattle.record.specs.Value.{seen, held}
+use Rattle.page.specs.CodePage.{shown}
+use Rattle.record.specs.Value.{held}
 use Rattle.record.specs.Codes.{codeOf}
 use Rattle.money.specs.declared.Amount.{Amount}
 use Rattle.money.specs.Money.{worth, split, Fit}
@@ -66,9 +67,9 @@ module _ (n : ℕ) (g : Going) (o : Room n g) where
   pub room-payments : n ≤ 65535 → g .state .payments < 65536
   room-payments h = omega (arith, o .payments)
 
-  pub room-fit : n ≤ 65535 → (line : Line) (rec : List ℕ) → 850 ≤ length rec → Fit (g .total) (split (detailCents (seen line rec)))
-  room-fit h line rec l =
-      record { left = o .whole; right = split-whole _; room = rw worth-split (omega (arith, o .total, cents-small line rec l)) }
+  pub room-fit : n ≤ 65535 → (ascii : Bool) (rec : List ℕ) → 850 ≤ length rec → Fit (g .total) (split (detailCents (shown ascii rec)))
+  room-fit h ascii rec l =
+      record { left = o .whole; right = split-whole _; room = rw worth-split (omega (arith, o .total, cents-small ascii rec l)) }
 
   -- room after a step
   pub room-next : (r : Record) → detailCents r < 100000000000000000000 → Room (n + 1) (stepped n r g)

@@ -7,6 +7,7 @@ use nesting::reader;
 use record::Line;
 use record::codes::code_of;
 ghost use mathlib.Core.Path.{_≡_};
+ghost use Rattle.page.specs.CodePage.{shown};
 ghost use Rattle.nesting.specs.Records.{Cuttable};
 ghost use Rattle.survey.specs.Survey.{undivided, Surveyed};
 
@@ -30,10 +31,10 @@ fn refuse(number: usize) -> Survey
     }
 }
 
-// One pass over a file's records (01 File answers, 5, 7 and 13).
-pub fn survey_file(file: &[u8]) -> Survey
+// One pass over the records of a file, ASCII or not (01 File answers, 5, 7 and 13).
+pub fn survey_file(file: &[u8], ascii: bool) -> Survey
     requires { ⌜ Cuttable (now file) ⌝ }
-    ensures { λ r. ⌜ Surveyed (now (file .entry)) r ⌝ }
+    ensures { λ r. ⌜ Surveyed (shown ascii (now (file .entry))) r ⌝ }
 {
     let mut going = pass::start();
     let mut number: usize = 0;
@@ -42,7 +43,7 @@ pub fn survey_file(file: &[u8]) -> Survey
         let end = at + 850;
         let rec = &file[at..end];
         number += 1;
-        let line = Line { number };
+        let line = Line { number, ascii };
         let code = code_of(rec, line);
         let state = going.state;
         if !reader::fits(rec, line, code, state) {

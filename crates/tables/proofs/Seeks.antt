@@ -1,7 +1,7 @@
 -- A search in a table: the values by their places, and where a record's value stands among them.
 -- Assumes nothing.
 use mathlib.Core.Path.{_≡_, refl, sym, ap, _∙_}
-use mathlib.Core.Bool.{true, false}
+use mathlib.Core.Bool.{Bool, true, false}
 use mathlib.Core.List.{List, [], _∷_, _++_}
 use mathlib.Core.Logic.{⊎-elim}
 use Prim.Native.Nat.{ℕ, zero, suc, _+_, _*_, _≤_, _<_}
@@ -12,17 +12,20 @@ use lib.Seq.{length-take-le, getD-take}
 use Rattle.record.specs.declared.Field.{Field}
 use Rattle.record.specs.declared.Order.{Order}
 use Rattle.record.specs.declared.Order.the-variants.{Before, Same, After}
+use Rattle.page.specs.CodePage.{shown}
 use Rattle.record.specs.Value.{held}
 use Rattle.record.specs.Ordering.{order, isBefore}
+use Rattle.page.proofs.Shown.{shown-length}
 use Rattle.record.proofs.Bracket.{Bracket, middle, raised, lowered, same-is, same-below, same-above, end-above, end-none}
 use Rattle.nesting.proofs.Cuts.{recordFrom, from-place}
 use Rattle.tables.specs.Tables.{Stands, Tabled, valueAt, valuesAt, kept, member, rank}
 use Rattle.tables.proofs.Values.{Parted, parted-rank, member-at, member-none, after-tells, same-tells}
 
 -- how two values stand to each other, as the code reads them
-pub ordered-at : (first place other : ℕ) (field : Field) (xs : List ℕ) (r : Order) → r ≡ order (held (recordFrom xs (first + place) (place * 850)) field) (held (recordFrom xs (first + other) (other * 850)) field)
-    → r ≡ order (valueAt first field xs place) (valueAt first field xs other)
-ordered-at first place other field xs r h = h ∙ rw (from-place first place xs, from-place first other xs)
+pub ordered-at : (ascii : Bool) (first place other : ℕ) (field : Field) (xs : List ℕ) (r : Order)
+    → r ≡ order (held (recordFrom ascii xs (place * 850)) field) (held (recordFrom ascii xs (other * 850)) field)
+    → r ≡ order (valueAt first field (shown ascii xs) place) (valueAt first field (shown ascii xs) other)
+ordered-at ascii first place other field xs r h = h ∙ rw (from-place ascii first place xs, from-place ascii first other xs)
 
 module _ (first : ℕ) (field : Field) (bytes : List ℕ) where
   values-length : (ps : List ℕ) → length (valuesAt first field bytes ps) ≡ length ps
@@ -89,7 +92,7 @@ module _ (first : ℕ) (field : Field) (bytes : List ℕ) where
     module _ (low high : ℕ) (b : Sought table count place low high) where
       -- the record that is looked at next, and how its value r stands to that which is sought
       module _ (h : low < high) where
-        pub next-stands : Stands first (getD table (middle low high) 0) bytes
+        next-stands : Stands first (getD table (middle low high) 0) bytes
         next-stands = t .stand (middle low high) (omega (arith, b .inside))
 
         module _ (r : Order) (e : r ≡ order (keyIn table (middle low high)) x) where
@@ -116,3 +119,10 @@ module _ (first : ℕ) (field : Field) (bytes : List ℕ) where
             sym (member-none _ _ (λ j l q.
             let n : j < count = omega (arith, kept-length table count (t .size)) in
             end-none _ _ _ _ _ b e j n (sym (kept-at table count (t .size) j n) ∙ q)))
+
+-- the record that is looked at next stands among the bytes that were sent
+pub next-sent : (ascii : Bool) (first : ℕ) (field : Field) (xs table : List ℕ) (count place : ℕ) → Tabled first field (shown ascii xs) table count
+    → (low high : ℕ) → Sought first field (shown ascii xs) table count place low high → low < high → Stands first (getD table (middle low high) 0) xs
+next-sent ascii first field xs table count place t low high b h =
+    let s = next-stands first field (shown ascii xs) table count place t low high b h in
+    (omega (arith, s .0, shown-length ascii xs), s .1)

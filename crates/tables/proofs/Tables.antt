@@ -11,8 +11,10 @@ use lib.ListN.{length, take, drop, getD}
 use Rattle.record.specs.declared.Field.{Field}
 use Rattle.record.specs.declared.Order.the-variants.{Before}
 use Rattle.record.specs.Choice.{_or_}
+use Rattle.page.specs.CodePage.{shown}
 use Rattle.record.specs.Tests.{alike}
 use Rattle.record.specs.Ordering.{order}
+use Rattle.page.proofs.Shown.{shown-length}
 use Rattle.record.proofs.Same.{alike-equal}
 use Rattle.record.proofs.Orders.{turn-after}
 use Rattle.tables.specs.declared.Entry.{Entry}
@@ -22,6 +24,10 @@ use Rattle.tables.proofs.Inserts.{Source, source, inserted-length, inse
 use Rattle.tables.proofs.Inserts.Source.{under, seated, over}
 use Rattle.tables.proofs.Seeks.{keyIn, kept-length, kept-at, values-append}
 use Rattle.tables.proofs.Enters.{seat-in, known-entry, known-table, new-entry, new-table, full-entry, full-table}
+
+-- a record stands among bytes as the rules see them where it stands among those that were sent
+pub stands-shown : (ascii : Bool) (first place : ℕ) (xs : List ℕ) → Stands first place xs → Stands first place (shown ascii xs)
+stands-shown ascii first place xs s = (omega (arith, s .0, shown-length ascii xs), s .1)
 
 -- one value more
 pub member-snoc : (x : List ℕ) (ys : List (List ℕ)) (y : List ℕ) → member x (ys ++ y ∷ []) ≡ (member x ys or alike y x)

@@ -6,6 +6,7 @@ use record::Order;
 ghost use mathlib.Core.Path.{_≡_};
 ghost use Prim.Native.Nat.{_*_, _<_, _≤_};
 ghost use lib.ListN.{length};
+ghost use Rattle.record.specs.Value.{seen};
 ghost use Rattle.record.specs.Ordering.{order};
 ghost use Rattle.tables.specs.Tables.{Stands, InRecord, Tabled, valueAt, kept, member, rank, insertedAt, entryOf, tableAfter};
 
@@ -22,31 +23,32 @@ struct Seat {
 }
 
 // How what the field holds in the record at one place stands to what it holds at another.
-fn compare(file: &[u8], first: usize, place: usize, other: usize, field: Field) -> Order
-    requires { ⌜ Stands first place (now file) × Stands first other (now file) × InRecord field ⌝ }
-    ensures { λ r. ⌜ r ≡ order (valueAt first field (now (file .entry)) place) (valueAt first field (now (file .entry)) other) ⌝ }
+fn compare(file: &[u8], first: Line, place: usize, other: usize, field: Field) -> Order
+    requires { ⌜ Stands (first .number) place (now file) × Stands (first .number) other (now file) × InRecord field ⌝ }
+    ensures { λ r. ⌜ r ≡ order (valueAt (first .number) field (seen first (now (file .entry))) place) (valueAt (first .number) field (seen first (now (file .entry))) other) ⌝ }
 {
     let from = place * 850;
     let to = from + 850;
-    let number = first + place;
+    let number = first.number + place;
     let at = other * 850;
     let end = at + 850;
-    let own = first + other;
+    let own = first.number + other;
+    let ascii = first.ascii;
     record::fields_order(
         &file[from..to],
-        Line { number },
+        Line { number, ascii },
         field,
         &file[at..end],
-        Line { number: own },
+        Line { number: own, ascii },
         field,
     )
 }
 
 // Where the record's value stands among the first `count` places of the table: binary search.
-fn seek(file: &[u8], first: usize, place: usize, field: Field, table: &[u16], count: usize) -> Seat
-    requires { ⌜ Tabled first field (now file) (now table) count × Stands first place (now file) × InRecord field ⌝ }
-    ensures at { λ r. ⌜ r .at ≡ rank (valueAt first field (now (file .entry)) place) (kept first field (now (file .entry)) (now (table .entry)) count) ⌝ }
-    ensures taken { λ r. ⌜ r .taken ≡ member (valueAt first field (now (file .entry)) place) (kept first field (now (file .entry)) (now (table .entry)) count) ⌝ }
+fn seek(file: &[u8], first: Line, place: usize, field: Field, table: &[u16], count: usize) -> Seat
+    requires { ⌜ Tabled (first .number) field (seen first (now file)) (now table) count × Stands (first .number) place (now file) × InRecord field ⌝ }
+    ensures at { λ r. ⌜ r .at ≡ rank (valueAt (first .number) field (seen first (now (file .entry))) place) (kept (first .number) field (seen first (now (file .entry))) (now (table .entry)) count) ⌝ }
+    ensures taken { λ r. ⌜ r .taken ≡ member (valueAt (first .number) field (seen first (now (file .entry))) place) (kept (first .number) field (seen first (now (file .entry))) (now (table .entry)) count) ⌝ }
 {
     let mut low: usize = 0;
     let mut high = count;
@@ -90,15 +92,15 @@ fn insert(table: &mut [u16], count: usize, seat: usize, place: usize)
 // Enters the record at the place into the table's first `count` places, unless its value is there already or the table is full.
 pub fn enter(
     file: &[u8],
-    first: usize,
+    first: Line,
     place: usize,
     field: Field,
     table: &mut [u16],
     count: usize,
 ) -> Entry
-    requires { ⌜ Tabled first field (now file) (now table) count × Stands first place (now file) × (place < 65536) × InRecord field ⌝ }
-    ensures answer { λ r. ⌜ r ≡ entryOf first field (now (file .entry)) (now (table .entry)) count place ⌝ }
-    ensures after { λ r. ⌜ now (table .exit) ≡ tableAfter first field (now (file .entry)) (now (table .entry)) count place ⌝ }
+    requires { ⌜ Tabled (first .number) field (seen first (now file)) (now table) count × Stands (first .number) place (now file) × (place < 65536) × InRecord field ⌝ }
+    ensures answer { λ r. ⌜ r ≡ entryOf (first .number) field (seen first (now (file .entry))) (now (table .entry)) count place ⌝ }
+    ensures after { λ r. ⌜ now (table .exit) ≡ tableAfter (first .number) field (seen first (now (file .entry))) (now (table .entry)) count place ⌝ }
 {
     let seat = seek(file, first, place, field, table, count);
     if seat.taken {

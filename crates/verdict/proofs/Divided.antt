@@ -7,7 +7,8 @@ use Prim.Native.Nat.{ℕ, _+_, _-_, _/_, _<_, _≤_}
 use native.Mathlib.Omega.{arith}
 use lib.ListN.{length, take, drop}
 use Rattle.record.specs.Choice.{choose}
-use Rattle.record.specs.Value.{seen}
+use Rattle.page.specs.CodePage.{shown}
+use Rattle.page.proofs.Shown.{shown-length}
 use Rattle.money.specs.Money.{worth, Whole}
 use Rattle.money.proofs.Amounts.{worth-split, whole-of}
 use Rattle.book.specs.Book.{placed, listedAt, Usable}
@@ -15,7 +16,8 @@ use Rattle.book.specs.Book.Opened.{sound}
 use Rattle.book.proofs.Chains.{usable}
 use Rattle.nesting.specs.Division.{Record, Division}
 use Rattle.nesting.specs.Paid.{paidByAll}
-use Rattle.nesting.specs.Records.{lineOf, records}
+use Rattle.nesting.specs.Records.{records}
+use Rattle.nesting.proofs.Cuts.{from-seen}
 use Rattle.characters.specs.Characters.{clean, firstUnclean}
 use Rattle.report.specs.Rows.{roomFor}
 use Rattle.verdict.specs.declared.Verdict.{Verdict}
@@ -42,7 +44,7 @@ module _ (file book : List ℕ) (v : Verdict) (k : Known file book v) where
   abbrev d : Division
   d = k .division
 
-  pub some-record : 850 ≤ length file
+  some-record : 850 ≤ length file
   some-record = omega (arith, batches-few file (k .cuttable) d (k .divided))
 
   batched : v .batches ≡ length (d .batches)
@@ -59,34 +61,6 @@ module _ (file book : List ℕ) (v : Verdict) (k : Known file book v) where
   pub total-whole : Whole (v .total)
   unfolding acceptance
   total-whole = whole-of (v .total) (paidByAll (d .batches)) (ap (λ (u : Verdict). u .total) (k .accepts))
-
-  -- FH, as it is handed on
-  module _ (h : ℕ) (e : h ≡ headerReason (listedAt book (v .shelves)) (seen (lineOf 1) (take 850 file))) where
-    header-read : (room : ℕ) → Clear file book room fromHeader → Tested file book room fromTrailer 1 h
-    header-read room c =
-        subst (λ (r : ℕ). Tested file book room fromTrailer 1 r)
-        (sym (e ∙ ap (headerReason (listedAt book (v .shelves))) (header-first file (k .cuttable) d (k .divided)))) (header-tested file book room v k c)
-
-    pub header-refused : (h ≡ 0 → ⊥) → (u : Verdict) → u ≡ refusalBy h 1 → Framed file book u
-    header-refused n u q = record { judged = λ room c. rw q (refused-by file book room (header-read room c) n) }
-
-    -- FT, as it is handed on
-    module _ (z : h ≡ 0) (t : ℕ)
-        (f : t ≡ trailerReason (length file / 850) (v .payments) (worth (v .total))
-        (seen (lineOf (length file / 850)) (take (length file - (length file - 850)) (drop (length file - 850) file)))) where
-      trailer-read : (room : ℕ) → Clear file book room fromHeader → Tested file book room [] (length file / 850) t
-      unfolding acceptance
-      trailer-read room c =
-          let n : length file - (length file - 850) ≡ 850 = omega (arith, some-record) in
-          let w : worth (v .total) ≡ paidByAll (d .batches) = ap (λ (u : Verdict). worth (u .total)) (k .accepts) ∙ worth-split _ in
-          let g = rw (n, w, trailer-last file (k .cuttable) d (k .divided)) at f in
-          rw g (trailer-tested file book room v k (clear-by file book room (header-read room c) z))
-
-      pub trailer-refused : (t ≡ 0 → ⊥) → (u : Verdict) → u ≡ refusalBy t (length file / 850) → Framed file book u
-      trailer-refused n u q = record { judged = λ room c. rw q (refused-by file book room (trailer-read room c) n) }
-
-      pub all-passed : t ≡ 0 → Framed file book v
-      all-passed o = record { judged = λ room c. accepted-as file book room v k (clear-by file book room (trailer-read room c) o) }
 
   -- the report's room, and the first low byte
   module _ (room wanted : ℕ) (w : wanted ≡ roomFor (v .batches)) where
@@ -114,3 +88,50 @@ module _ (file book : List ℕ) (v : Verdict) (k : Known file book v) where
 
   pub unclean-small : (n : ℕ) → n ≡ firstUnclean 1 (records file) → n ≤ 65536
   unclean-small n e = omega (arith, e, unclean-few 1 (records file), count-of file, k .cuttable .few)
+
+-- the same file, as it was sent
+module _ (ascii : Bool) (sent book : List ℕ) (v : Verdict) (k : Known (shown ascii sent) book v) where
+  abbrev file : List ℕ
+  file = shown ascii sent
+
+  pub some-sent : 850 ≤ length sent
+  some-sent = omega (arith, some-record file book v k, shown-length ascii sent)
+
+  pub number-small : length sent / 850 ≤ 65536
+  number-small = omega (arith, k .cuttable .few, shown-length ascii sent)
+
+  -- FH, as it is handed on
+  header-is : shown ascii (take 850 sent) ≡ k .division .header
+  header-is = from-seen ascii sent 1 0 ∙ header-first file (k .cuttable) (k .division) (k .divided)
+
+  module _ (h : ℕ) (e : h ≡ headerReason (listedAt book (v .shelves)) (shown ascii (take 850 sent))) where
+    header-read : (room : ℕ) → Clear file book room fromHeader → Tested file book room fromTrailer 1 h
+    header-read room c =
+        subst (λ (r : ℕ). Tested file book room fromTrailer 1 r) (sym (e ∙ ap (headerReason (listedAt book (v .shelves))) header-is)) (header-tested file book room v k c)
+
+    pub header-refused : (h ≡ 0 → ⊥) → (u : Verdict) → u ≡ refusalBy h 1 → Framed file book u
+    header-refused n u q = record { judged = λ room c. rw q (refused-by file book room (header-read room c) n) }
+
+    -- FT, as it is handed on
+    abbrev last : List ℕ
+    last = take (length sent - (length sent - 850)) (drop (length sent - 850) sent)
+
+    trailer-is : shown ascii last ≡ k .division .trailer
+    trailer-is =
+        let n : length sent - (length sent - 850) ≡ 850 = omega (arith, some-sent) in
+        let m : length sent - 850 + 850 - (length sent - 850) ≡ 850 = omega arith in
+        rw n (rw m at (from-seen ascii sent 1 (length sent - 850)) ∙ rw (← shown-length ascii sent) (trailer-last file (k .cuttable) (k .division) (k .divided)))
+
+    module _ (z : h ≡ 0) (t : ℕ) (f : t ≡ trailerReason (length sent / 850) (v .payments) (worth (v .total)) (shown ascii last)) where
+      trailer-read : (room : ℕ) → Clear file book room fromHeader → Tested file book room [] (length file / 850) t
+      unfolding acceptance
+      trailer-read room c =
+          let w : worth (v .total) ≡ paidByAll (k .division .batches) = ap (λ (u : Verdict). worth (u .total)) (k .accepts) ∙ worth-split _ in
+          let g = rw (w, trailer-is, ← shown-length ascii sent) at f in
+          rw g (trailer-tested file book room v k (clear-by file book room (header-read room c) z))
+
+      pub trailer-refused : (t ≡ 0 → ⊥) → (u : Verdict) → u ≡ refusalBy t (length sent / 850) → Framed file book u
+      trailer-refused n u q = record { judged = λ room c. rw (q, ← shown-length ascii sent) (refused-by file book room (trailer-read room c) n) }
+
+      pub all-passed : t ≡ 0 → Framed file book v
+      all-passed o = record { judged = λ room c. accepted-as file book room v k (clear-by file book room (trailer-read room c) o) }

@@ -73,6 +73,5 @@ module _ (file : List ℕ) (w : Cuttable file) (d : Division) (h : DivisionOf (r
       let n = length file / 850 in
       let l : length before ≡ n - 1 = omega (arith, count-of file, rw length-append at (ap length before-trailer)) in
       let t : drop (n - 1) (records file) ≡ d .trailer ∷ [] = rw (← before-trailer) (drop-at before (d .trailer ∷ []) (n - 1) l) in
-      let i : 1 + (n - 1) ≡ n = omega (arith, batches-few) in
       let s : (n - 1) * 850 ≡ length file - 850 = omega (arith, w .whole) in
-      ap (λ (rs : List Record). getD rs 0 []) (sym (rw (i, s) at (record-at (n - 1) (omega (arith, batches-few)))) ∙ ap (take 1) t)
+      ap (λ (rs : List Record). getD rs 0 []) (sym (rw s at (record-at (n - 1) (omega (arith, batches-few)))) ∙ ap (take 1) t)

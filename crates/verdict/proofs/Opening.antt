@@ -1,12 +1,14 @@
 -- The tests before the report's room, and what they leave.
 -- Assumes nothing.
 use mathlib.Core.Path.{_≡_, refl, sym}
-use mathlib.Core.Bool.{true, false, true≢false}
+use mathlib.Core.Bool.{Bool, true, false, true≢false}
 use mathlib.Core.List.{List, _∷_}
 use Prim.Native.Nat.{ℕ, _≤_}
 use native.Mathlib.Omega.{arith}
 use lib.ListN.{length}
 use Rattle.money.specs.Money.{split}
+use Rattle.page.specs.CodePage.{shown}
+use Rattle.page.proofs.Shown.{shown-length}
 use Rattle.book.specs.declared.Book.{Book}
 use Rattle.book.specs.Book.{Contents, Lists, Opened, placed, shut}
 use Rattle.book.specs.Book.Opened.{sound, unsound}
@@ -59,10 +61,13 @@ nests : (file : List ℕ) (t : Survey) → Surveyed file t → (b p : ℕ) → t
 nests file t (Surveyed.legal d h) b p e = record { division = d; divided = h; batched = cc; paid = cc; unclean = refl; summed = refl }
 nests file t (Surveyed.refused k r) b p e = absurd (true≢false (cc))
 
--- any file and any book
-module _ (file book : List ℕ) (room u : ℕ) (e : u ≡ lengthReason (length file)) where
+-- any file, ASCII or not, and any book
+module _ (ascii : Bool) (sent book : List ℕ) (room u : ℕ) (e : u ≡ lengthReason (length sent)) where
+  abbrev file : List ℕ
+  file = shown ascii sent
+
   length-read : Tested file book room fromBook 0 u
-  length-read = rw e (lengths file book room)
+  length-read = rw (e, ← shown-length ascii sent) (lengths file book room)
 
   pub unfit : (u ≡ 0 → ⊥) → (v : Verdict) → v ≡ refusalBy u 0 → Judgement file book room v
   unfit n v q = rw q (refused-by file book room length-read n)
@@ -71,8 +76,11 @@ module _ (file book : List ℕ) (room u : ℕ) (e : u ≡ lengthReason (length f
     fit : Clear file book room fromBook
     fit = clear-by file book room length-read z
 
-    pub fit-cuttable : Cuttable file
+    fit-cuttable : Cuttable file
     fit-cuttable = cuttable file book room fit
+
+    pub sent-cuttable : Cuttable sent
+    sent-cuttable = record { whole = rw (← shown-length ascii sent) (fit-cuttable .whole); few = rw (← shown-length ascii sent) (fit-cuttable .few) }
 
     pub bookless : (s : Book) → Opened book s → s .sound ≡ false → (v : Verdict) → v ≡ refusalBy (numberOf BookUnsound) 0 → Judgement file book room v
     unfolding refusalBy refusal

@@ -36,7 +36,13 @@ pub(crate) fn header_reason(book: &[u8], shelves: Book, rec: &[u8], line: Line) 
     if is_strange(book, shelves, rec, line) {
         return reason::INPUT_SYSTEM;
     }
-    if record::field_is(rec, line, layout::VERSION_IDENTIFIER, b"\xF2\xF0\xF1") {
+    if record::field_is(
+        rec,
+        line,
+        layout::VERSION_IDENTIFIER,
+        b"\xF2\xF0\xF1",
+        b"201",
+    ) {
         return 0;
     }
     reason::VERSION

@@ -9,6 +9,7 @@ use record::Line;
 ghost use mathlib.Core.Path.{_≡_};
 ghost use Prim.Native.Nat.{_≤_};
 ghost use lib.ListN.{length};
+ghost use Rattle.page.specs.CodePage.{shown};
 ghost use Rattle.book.specs.Book.{shut};
 ghost use Rattle.nesting.specs.Records.{records};
 ghost use Rattle.characters.specs.Characters.{firstUnclean};
@@ -80,12 +81,13 @@ fn length_reason(file: &[u8]) -> u64
 }
 
 // 8 to 13 by the file's first and last record, or accepted.
-fn judge_frame(file: &[u8], book: &[u8], accepted: Verdict) -> Verdict
-    requires { ⌜ Known (now file) (now book) accepted ⌝ }
-    ensures { λ r. ⌜ Framed (now (file .entry)) (now (book .entry)) r ⌝ }
+fn judge_frame(file: &[u8], ascii: bool, book: &[u8], accepted: Verdict) -> Verdict
+    requires { ⌜ Known (shown ascii (now file)) (now book) accepted ⌝ }
+    ensures { λ r. ⌜ Framed (shown ascii (now (file .entry))) (now (book .entry)) r ⌝ }
 {
     let shelves = accepted.shelves;
-    let header = frame::header_reason(book, shelves, &file[0..850], Line { number: 1 });
+    let first = Line { number: 1, ascii };
+    let header = frame::header_reason(book, shelves, &file[0..850], first);
     if header != 0 {
         return refuse(header, 1);
     }
@@ -94,7 +96,8 @@ fn judge_frame(file: &[u8], book: &[u8], accepted: Verdict) -> Verdict
     let number = end / 850;
     let payments = accepted.payments;
     let total = accepted.total;
-    let trailer = frame::trailer_reason(&file[start..end], Line { number }, payments, total);
+    let last = Line { number, ascii };
+    let trailer = frame::trailer_reason(&file[start..end], last, payments, total);
     if trailer != 0 {
         return refuse(trailer, number);
     }
@@ -104,13 +107,14 @@ fn judge_frame(file: &[u8], book: &[u8], accepted: Verdict) -> Verdict
 // 6 and 7, and those that follow.
 fn judge_divided(
     file: &[u8],
+    ascii: bool,
     book: &[u8],
     room: usize,
     unclean: usize,
     accepted: Verdict,
 ) -> Verdict
-    requires { ⌜ Known (now file) (now book) accepted × (unclean ≡ firstUnclean 1 (records (now file))) ⌝ }
-    ensures { λ r. ⌜ Judgement (now (file .entry)) (now (book .entry)) room r ⌝ }
+    requires { ⌜ Known (shown ascii (now file)) (now book) accepted × (unclean ≡ firstUnclean 1 (records (shown ascii (now file)))) ⌝ }
+    ensures { λ r. ⌜ Judgement (shown ascii (now (file .entry))) (now (book .entry)) room r ⌝ }
 {
     let wanted = report::room_for(accepted.batches);
     if room < wanted {
@@ -119,12 +123,12 @@ fn judge_divided(
     if unclean != 0 {
         return refuse(reason::LOW_BYTE, unclean);
     }
-    judge_frame(file, book, accepted)
+    judge_frame(file, ascii, book, accepted)
 }
 
-// The answer about a file and the room of a report, in document 01's order. Nothing is written.
-pub fn file_answer(file: &[u8], book: &[u8], room: usize) -> Verdict
-    ensures { λ r. ⌜ Judgement (now (file .entry)) (now (book .entry)) room r ⌝ }
+// The answer about a file, ASCII or not, and the room of a report, in document 01's order. Nothing is written.
+pub fn file_answer(file: &[u8], ascii: bool, book: &[u8], room: usize) -> Verdict
+    ensures { λ r. ⌜ Judgement (shown ascii (now (file .entry))) (now (book .entry)) room r ⌝ }
 {
     let unfit = length_reason(file);
     if unfit != 0 {
@@ -134,7 +138,7 @@ pub fn file_answer(file: &[u8], book: &[u8], room: usize) -> Verdict
     if !shelves.sound {
         return refuse(reason::BOOK_UNSOUND, 0);
     }
-    let found = survey::survey_file(file);
+    let found = survey::survey_file(file, ascii);
     let nested = found.nested;
     let total = found.total;
     match nested {
@@ -147,7 +151,7 @@ pub fn file_answer(file: &[u8], book: &[u8], room: usize) -> Verdict
                 payments,
                 total,
             };
-            judge_divided(file, book, room, found.unclean, accepted)
+            judge_divided(file, ascii, book, room, found.unclean, accepted)
         }
     }
 }

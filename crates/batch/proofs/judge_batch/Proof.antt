@@ -1,3 +1,5 @@
+use Rattle.record.specs.Value.{seen}
+use Rattle.page.proofs.Shown.{sent-least, sent-most}
 use Rattle.book.specs.Book.{listedAt}
 use Rattle.batch.proofs.Judged.{Judging, walksLeft, judging-begun, end-within, rest-few, first-few, judging-less, judging-next}
 use borrow.Author.Needs.{needs}
@@ -5,10 +7,10 @@ use Rattle.batch.proofs.judge_batch.Statement.{statement}
 use Rattle.batch.proofs.judge_batch.Tie as tie
 
 abbrev Inv-loop : tie.InvT-loop
-Inv-loop book shelves rest first repeats row₀ told₀ again₀ row told again = Judging (listedAt book shelves) repeats first rest row told again
+Inv-loop book shelves rest first repeats number row₀ told₀ again₀ row told again = Judging (listedAt book shelves) repeats (first .number) (seen first rest) row told again
 
 abbrev μ-loop : tie.MeasureT-loop
-μ-loop book shelves rest first repeats row₀ told₀ again₀ row told again = walksLeft told again
+μ-loop book shelves rest first repeats number row₀ told₀ again₀ row told again = walksLeft told again
 
 loop-holds : tie.Need-loop-holds Inv-loop μ-loop
 loop-holds c = judging-begun _ _ _
@@ -20,7 +22,7 @@ seek-requires : tie.Need-seek-requires Inv-loop μ-loop
 seek-requires c κs =
     let j = c .before .before .before .before .before .before .before .pre .1 in
     let e = c .before .before .walk-batch .ensures in
-    (end-within _ _ _ j e, rest-few _ _ _ j e, first-few _ _ _ j e)
+    (sent-least _ _ _ (end-within _ _ _ j e), sent-most _ _ _ (rest-few _ _ _ j e), first-few _ _ _ j e)
 
 row-of-requires : tie.Need-row-of-requires Inv-loop μ-loop
 row-of-requires c κs = search needs

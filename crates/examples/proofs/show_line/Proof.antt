@@ -5,7 +5,7 @@ use Rattle.examples.proofs.show_line.Statement.{statement}
 use Rattle.examples.proofs.show_line.Tie as tie
 
 slice-aggregate-write-all : tie.Need-slice-aggregate-write-all
-slice-aggregate-write-all c = sym (length-take-le 48 (c .before .before .before .args .row .now) (search needs))
+slice-aggregate-write-all c = sym (length-take-le 56 (c .before .before .before .args .row .now) (search needs))
 
 write-all-requires : tie.Need-write-all-requires
 write-all-requires c κs = search needs

@@ -1,13 +1,16 @@
-use Rattle.judge.proofs.Ready.{ready, ready-usable, ready-writable, ready-judged, kept}
+use Rattle.judge.proofs.Ready.{ready, ready-usable, ready-writable, ready-promised, kept-promised}
 use borrow.Author.Needs.{needs}
 use Rattle.judge.proofs.srf_judge.Statement.{statement}
 use Rattle.judge.proofs.srf_judge.Tie as tie
+
+is-ascii-requires : tie.Need-is-ascii-requires
+is-ascii-requires c κs = search needs
 
 file-answer-requires : tie.Need-file-answer-requires
 file-answer-requires c κs = search needs
 
 returns : tie.Need-returns
-returns c = kept _ _ _ _ (c .before .file-answer .ensures) (c .if1 .taken)
+returns c = kept-promised _ _ _ (c .before .before .is-ascii .ensures) _ _ (c .before .file-answer .ensures) (c .if1 .taken)
 
 write-rows-requires : tie.Need-write-rows-requires
 write-rows-requires c κs =
@@ -19,9 +22,10 @@ same-length c = search needs
 
 returns-2 : tie.Need-returns-2
 returns-2 c =
-    let r = ready _ _ _ _ (c .before .before .before .before .before .before .before .file-answer .ensures) (c .before .before .before .before .before .before .if1 .left) in
-    ready-judged _ _ _ _ r _ (c .before .before .write-rows .ensures)
+    let b = c .before .before .before .before .before .before .before in
+    let r = ready _ _ _ _ (b .file-answer .ensures) (c .before .before .before .before .before .before .if1 .left) in
+    ready-promised _ _ _ (b .before .is-ascii .ensures) _ _ r _ (c .before .before .write-rows .ensures)
 
 pub srf-judge-spec : {M : Type 1} → statement M
 srf-judge-spec =
-    tie.close (tie.spec file-answer-requires returns write-rows-requires same-length returns-2)
+    tie.close (tie.spec is-ascii-requires file-answer-requires returns write-rows-requires same-length returns-2)

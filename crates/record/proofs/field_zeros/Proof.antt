@@ -1,3 +1,4 @@
+use Rattle.page.specs.CodePage.{codePage, ebcdic, twins}
 use borrow.Author.Needs.{needs}
 use Rattle.record.proofs.field_zeros.Statement.{statement}
 use Rattle.record.proofs.field_zeros.Tie as tie
@@ -6,6 +7,7 @@ locate-requires : tie.Need-locate-requires
 locate-requires c κs = search needs
 
 is-only-requires : tie.Need-is-only-requires
+unfolding twins ebcdic codePage
 is-only-requires c κs = search needs
 
 returns : tie.Need-returns

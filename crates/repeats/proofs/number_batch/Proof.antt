@@ -1,6 +1,6 @@
 use Rattle.record.proofs.Chain.{reads}
 use Rattle.repeats.specs.Repeats.{numbering}
-use Rattle.repeats.proofs.Schedules.{some-flag, tell-marked, after-marked, tell-up, after-up, tell-down, after-down}
+use Rattle.repeats.proofs.Schedules.{batched-within, batched-few, batched-small, some-flag, tell-marked, after-marked, tell-up, after-up, tell-down, after-down}
 use borrow.Author.Needs.{needs}
 use Rattle.repeats.proofs.number_batch.Statement.{statement}
 use Rattle.repeats.proofs.number_batch.Tie as tie
@@ -16,16 +16,16 @@ slice-aggregate-is-after c = search needs
 
 is-after-requires : tie.Need-is-after-requires
 unfolding numbering
-is-after-requires c κs = search needs
+is-after-requires c κs = search (needs, batched-within, batched-small)
 
 schedule-number-requires : tie.Need-schedule-number-requires
-schedule-number-requires c κs = search needs
+schedule-number-requires c κs = search (needs, batched-within, batched-small)
 
 returns-2 : tie.Need-returns-2
 returns-2 c = search (needs, tell-up, after-up, reads)
 
 mark-batches-requires : tie.Need-mark-batches-requires
-mark-batches-requires c κs = search needs
+mark-batches-requires c κs = search (needs, batched-within, batched-few)
 
 slice-read-repeats-2 : tie.Need-slice-read-repeats-2
 slice-read-repeats-2 c = let h = some-flag _ _ (c .before .before .before .before .before .before .before .before .before .before .before .pre .0) in search needs

@@ -1,4 +1,6 @@
 use Prim.Native.Nat.{_-_}
+use Rattle.page.specs.CodePage.{shown}
+use Rattle.page.proofs.Shown.{shown-records}
 use Rattle.book.specs.Book.{listedAt}
 use Rattle.report.proofs.Rows.{head-room}
 use Rattle.rows.proofs.Turns.{Going, opens, numberable, row-few, row-fits, turned, begun, all-kept, finished}
@@ -7,11 +9,11 @@ use Rattle.rows.proofs.write_rows.Statement.{statement}
 use Rattle.rows.proofs.write_rows.Tie as tie
 
 abbrev Inv-loop : tie.InvT-loop
-Inv-loop file book shelves payments batches report₀ records greatest₀ marked₀ place₀ written₀ report greatest marked place written =
-    Going (listedAt book shelves) file payments batches report₀ report greatest marked place written
+Inv-loop file ascii book shelves payments batches report₀ records greatest₀ marked₀ place₀ written₀ report greatest marked place written =
+    Going (listedAt book shelves) (shown ascii file) payments batches report₀ report greatest marked place written
 
 abbrev μ-loop : tie.MeasureT-loop
-μ-loop file book shelves payments batches report₀ records greatest₀ marked₀ place₀ written₀ report greatest marked place written =
+μ-loop file ascii book shelves payments batches report₀ records greatest₀ marked₀ place₀ written₀ report greatest marked place written =
     batches - written
 
 head-numbers-requires : tie.Need-head-numbers-requires Inv-loop μ-loop
@@ -21,7 +23,7 @@ write-row-requires : tie.Need-write-row-requires Inv-loop μ-loop
 write-row-requires c κs = search (needs, head-room)
 
 loop-holds : tie.Need-loop-holds Inv-loop μ-loop
-loop-holds c = search (needs, begun)
+loop-holds c = search (needs, begun, shown-records)
 
 number-next-requires : tie.Need-number-next-requires Inv-loop μ-loop
 number-next-requires c κs = search (needs, numberable)
@@ -49,10 +51,10 @@ loop-again c =
     (c .before .before .before .write-row2 .ensures)
 
 same-length : tie.Need-same-length Inv-loop μ-loop
-same-length c = search (needs, all-kept)
+same-length c = search (needs, all-kept, shown-records)
 
 returns : tie.Need-returns Inv-loop μ-loop
-returns c = search (needs, finished)
+returns c = search (needs, finished, shown-records)
 
 pub write-rows-spec : {M : Type 1} → statement M
 write-rows-spec =

@@ -1,22 +1,23 @@
-use Prim.Native.Nat.{_-_}
+use Prim.Native.Nat.{_-_, _≤_}
 use lib.ListN.{length}
+use Rattle.page.specs.CodePage.{shown}
 use Rattle.record.proofs.Chain.{told-not, told-yes}
-use Rattle.survey.proofs.Turns.{Surveying, surveying, number-few, turned, stopped, closed, unclosed}
+use Rattle.survey.proofs.Turns.{Surveying, surveying, within-next, number-few, turned, stopped, closed, unclosed}
 use borrow.Author.Needs.{needs}
 use Rattle.survey.proofs.survey_file.Statement.{statement}
 use Rattle.survey.proofs.survey_file.Tie as tie
 
 abbrev Inv-loop : tie.InvT-loop
-Inv-loop file going₀ number₀ at₀ going number at = Surveying file going number at
+Inv-loop file ascii going₀ number₀ at₀ going number at = Surveying (shown ascii file) going number at × (at ≤ length file)
 
 abbrev μ-loop : tie.MeasureT-loop
-μ-loop file going₀ number₀ at₀ going number at = length file - at
+μ-loop file ascii going₀ number₀ at₀ going number at = length file - at
 
 start-requires : tie.Need-start-requires Inv-loop μ-loop
 start-requires c κs = search needs
 
 loop-holds : tie.Need-loop-holds Inv-loop μ-loop
-loop-holds c = surveying _ _ (c .start .ensures)
+loop-holds c = (surveying _ _ (c .start .ensures), search needs)
 
 add-end : tie.Need-add-end Inv-loop μ-loop
 add-end c = search needs
@@ -47,15 +48,15 @@ returns c =
     let d = c .before .before .before .before .before .before .before in
     let e = d .before .before in
     let h = c .before .before .before .before .before .before .loop-test .taken in
-    stopped _ _ _ _ (e .before .pre) (d .loop .inv) _ h (c .before .before .before .before .code-of .ensures) _ (c .before .before .fits2 .ensures)
+    stopped _ _ _ _ _ (e .before .pre) (d .loop .inv .0) _ h (c .before .before .before .before .code-of .ensures) _ (c .before .before .fits2 .ensures)
     (λ i. e .shared-slice-known .given i .fits) (c .before .if1 .taken) _ (c .refuse .ensures)
 
 step-requires : tie.Need-step-requires Inv-loop μ-loop
 step-requires c κs =
     let d = c .before .before .before .before .before .before in
-    let l = d .loop .inv in
+    let l = d .loop .inv .0 in
     let h = c .before .before .before .before .before .loop-test .taken in
-    (search needs, number-few _ _ _ _ (d .before .before .before .pre) l h, c .before .before .before .code-of .ensures, told-yes _ _ (c .before .fits2 .ensures) (c .if1 .left), l .room)
+    (search needs, number-few _ _ _ _ _ (d .before .before .before .pre) l h, c .before .before .before .code-of .ensures, told-yes _ _ (c .before .fits2 .ensures) (c .if1 .left), l .room)
 
 loop-less : tie.Need-loop-less Inv-loop μ-loop
 loop-less c = search needs
@@ -64,7 +65,7 @@ loop-again : tie.Need-loop-again Inv-loop μ-loop
 loop-again c =
     let d = c .before .before .before .before .before .before .before in
     let h = c .before .before .before .before .before .before .loop-test .taken in
-    turned _ _ _ _ (d .before .before .before .pre) (d .loop .inv) _ h (c .before .before .before .before .code-of .ensures) _ (c .before .before .fits2 .ensures) (c .before .if1 .left) _ (c .step .ensures)
+    (turned _ _ _ _ _ (d .before .before .before .pre) (d .loop .inv .0) _ h (c .before .before .before .before .code-of .ensures) _ (c .before .before .fits2 .ensures) (c .before .if1 .left) _ (c .step .ensures), within-next _ _ _ _ _ (d .before .before .before .pre) (d .loop .inv .0) h)
 
 is-at-requires : tie.Need-is-at-requires Inv-loop μ-loop
 is-at-requires c κs = search needs
@@ -79,14 +80,14 @@ returns-2 : tie.Need-returns-2 Inv-loop μ-loop
 returns-2 c =
     let d = c .before .before .before .before .before in
     let e = d .before .before in
-    unclosed _ _ _ _ (e .before .pre) (d .loop .inv) (λ i. e .shared-slice-known .given i .fits) (c .before .before .before .before .loop-test .left)
+    unclosed _ _ _ _ _ (e .before .pre) (d .loop .inv .0) (λ i. e .shared-slice-known .given i .fits) (c .before .before .before .before .loop-test .left)
     (told-not _ _ (c .before .before .is-at .ensures) (c .before .if2 .taken)) _ (c .refuse2 .ensures)
 
 returns-3 : tie.Need-returns-3 Inv-loop μ-loop
 returns-3 c =
     let d = c .before .before .before .before .before in
     let e = d .before .before in
-    closed _ _ _ _ (e .before .pre) (d .loop .inv) (λ i. e .shared-slice-known .given i .fits) (c .before .before .before .before .loop-test .left)
+    closed _ _ _ _ _ (e .before .pre) (d .loop .inv .0) (λ i. e .shared-slice-known .given i .fits) (c .before .before .before .before .loop-test .left)
     (told-yes _ _ (c .before .before .is-at .ensures) (c .before .if2 .left))
 
 pub survey-file-spec : {M : Type 1} → statement M

@@ -1,12 +1,13 @@
 use Prim.Native.Nat.{_-_}
+use Rattle.record.specs.Value.{seen}
 use Rattle.record.proofs.Bracket.{opened}
-use Rattle.tables.proofs.Seeks.{Sought, next-stands, sought-raised, sought-lowered, seat-taken, value-known, seat-free, value-new}
+use Rattle.tables.proofs.Seeks.{Sought, next-sent, sought-raised, sought-lowered, seat-taken, value-known, seat-free, value-new}
 use borrow.Author.Needs.{needs, fits-under}
 use Rattle.tables.proofs.seek.Statement.{statement}
 use Rattle.tables.proofs.seek.Tie as tie
 
 abbrev Inv-loop : tie.InvT-loop
-Inv-loop file first place field table count low₀ high₀ low high = Sought first field file table count place low high
+Inv-loop file first place field table count low₀ high₀ low high = Sought (first .number) field (seen first file) table count place low high
 
 abbrev μ-loop : tie.MeasureT-loop
 μ-loop file first place field table count low₀ high₀ low high = high - low
@@ -30,7 +31,7 @@ cast-other : tie.Need-cast-other Inv-loop μ-loop
 cast-other c = fits-under _ _ 65536 (c .shared-slice-known3 .given _ .fits) tt
 
 compare-requires : tie.Need-compare-requires Inv-loop μ-loop
-compare-requires c κs = search (needs, next-stands)
+compare-requires c κs = search (needs, next-sent)
 
 enum-told : tie.Need-enum-told Inv-loop μ-loop
 enum-told c = search needs

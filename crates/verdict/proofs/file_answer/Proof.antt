@@ -1,5 +1,5 @@
 use Rattle.verdict.proofs.Laws.{length-small}
-use Rattle.verdict.proofs.Opening.{unfit, bookless, fit-cuttable, unnested, named-small, divided, first-unclean}
+use Rattle.verdict.proofs.Opening.{unfit, bookless, sent-cuttable, unnested, named-small, divided, first-unclean}
 use Rattle.verdict.specs.Answer.{numberOf}
 use borrow.Author.Tests.{not-true, not-false}
 use borrow.Author.Needs.{needs}
@@ -26,7 +26,7 @@ unfolding numberOf
 returns-2 c = search (needs, bookless, not-true)
 
 survey-file-requires : tie.Need-survey-file-requires
-survey-file-requires c κs = search (needs, fit-cuttable)
+survey-file-requires c κs = search (needs, sent-cuttable)
 
 enum-known-nested : tie.Need-enum-known-nested
 enum-known-nested c = search needs

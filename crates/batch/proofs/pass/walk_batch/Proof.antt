@@ -1,14 +1,13 @@
 use Prim.Native.Nat.{_-_}
 use Rattle.book.specs.Book.{listedAt}
-use Rattle.batch.proofs.Trailers.{first-record}
-use Rattle.batch.proofs.Turns.{Passing, passing-begun, walking, left, room-here, end-within, end-few, number-few, records-few, here-length, passing-less, passing-next}
+use Rattle.batch.proofs.Turns.{Passing, first-sent, passing-begun, walking, left, room-here, end-within, end-few, number-few, records-few, here-length, passing-less, passing-next}
 use borrow.Author.Needs.{needs}
 use Rattle.batch.proofs.pass.walk_batch.Statement.{statement}
 use Rattle.batch.proofs.pass.walk_batch.Tie as tie
 
 abbrev Inv-loop : tie.InvT-loop
 Inv-loop book shelves rest first repeats told state₀ climbing₀ records₀ at₀ stop₀ state climbing records at stop =
-    Passing (listedAt book shelves) rest first repeats told (record { state = state; climbing = climbing; records = records }) at stop
+    Passing (listedAt book shelves) (first .ascii) rest (first .number) repeats told (record { state = state; climbing = climbing; records = records }) at stop
 
 abbrev μ-loop : tie.MeasureT-loop
 μ-loop book shelves rest first repeats told state₀ climbing₀ records₀ at₀ stop₀ state climbing records at stop = stop - at
@@ -20,7 +19,7 @@ part-open-batch-start : tie.Need-part-open-batch-start Inv-loop μ-loop
 part-open-batch-start c = search needs
 
 part-open-batch-end : tie.Need-part-open-batch-end Inv-loop μ-loop
-part-open-batch-end c = let k = first-record (c .before .before .pre .1) in search needs
+part-open-batch-end c = let k = first-sent _ _ _ (c .before .before .pre .1) in search needs
 
 open-batch-requires : tie.Need-open-batch-requires Inv-loop μ-loop
 open-batch-requires c κs = search needs
@@ -32,7 +31,7 @@ add-end : tie.Need-add-end Inv-loop μ-loop
 add-end c = let k = end-few (walking (c .before .loop .inv) (c .loop-test .taken)) (left (c .before .loop .inv) (c .loop-test .taken)) in search needs
 
 add-number : tie.Need-add-number Inv-loop μ-loop
-add-number c = let k = number-few (walking (c .before .loop .inv) (c .loop-test .taken)) (left (c .before .loop .inv) (c .loop-test .taken)) in search needs
+add-number c = let k = number-few (walking (c .before .before .loop .inv) (c .before .loop-test .taken)) (left (c .before .before .loop .inv) (c .before .loop-test .taken)) in search needs
 
 is-at-requires : tie.Need-is-at-requires Inv-loop μ-loop
 is-at-requires c κs = search needs
@@ -44,7 +43,7 @@ part-code-of-start : tie.Need-part-code-of-start Inv-loop μ-loop
 part-code-of-start c = search needs
 
 part-code-of-end : tie.Need-part-code-of-end Inv-loop μ-loop
-part-code-of-end c = let k = end-within (walking (c .before .before .loop .inv) (c .before .loop-test .taken)) (left (c .before .before .loop .inv) (c .before .loop-test .taken)) in search needs
+part-code-of-end c = let k = end-within (walking (c .before .before .before .loop .inv) (c .before .before .loop-test .taken)) (left (c .before .before .before .loop .inv) (c .before .before .loop-test .taken)) in search needs
 
 code-of-requires : tie.Need-code-of-requires Inv-loop μ-loop
 code-of-requires c κs = search needs
@@ -56,12 +55,12 @@ part-step-start : tie.Need-part-step-start Inv-loop μ-loop
 part-step-start c = search needs
 
 part-step-end : tie.Need-part-step-end Inv-loop μ-loop
-part-step-end c = let k = end-within (walking (c .before .before .before .before .loop .inv) (c .before .before .before .loop-test .taken)) (left (c .before .before .before .before .loop .inv) (c .before .before .before .loop-test .taken)) in search needs
+part-step-end c = let k = end-within (walking (c .before .before .before .before .before .loop .inv) (c .before .before .before .before .loop-test .taken)) (left (c .before .before .before .before .before .loop .inv) (c .before .before .before .before .loop-test .taken)) in search needs
 
 step-requires : tie.Need-step-requires Inv-loop μ-loop
 step-requires c κs =
-    let l = walking (c .before .before .before .before .before .loop .inv) (c .before .before .before .before .loop-test .taken) in
-    let h = left (c .before .before .before .before .before .loop .inv) (c .before .before .before .before .loop-test .taken) in
+    let l = walking (c .before .before .before .before .before .before .loop .inv) (c .before .before .before .before .before .loop-test .taken) in
+    let h = left (c .before .before .before .before .before .before .loop .inv) (c .before .before .before .before .before .loop-test .taken) in
     (search needs, here-length l h, c .before .code-of .ensures, room-here l, number-few l h)
 
 sub-climb : tie.Need-sub-climb Inv-loop μ-loop
@@ -71,23 +70,23 @@ part-climb-start : tie.Need-part-climb-start Inv-loop μ-loop
 part-climb-start c = search needs
 
 part-climb-end : tie.Need-part-climb-end Inv-loop μ-loop
-part-climb-end c = let k = end-within (walking (c .before .before .before .before .before .before .loop .inv) (c .before .before .before .before .before .loop-test .taken)) (left (c .before .before .before .before .before .before .loop .inv) (c .before .before .before .before .before .loop-test .taken)) in search needs
+part-climb-end c = let k = end-within (walking (c .before .before .before .before .before .before .before .loop .inv) (c .before .before .before .before .before .before .loop-test .taken)) (left (c .before .before .before .before .before .before .before .loop .inv) (c .before .before .before .before .before .before .loop-test .taken)) in search needs
 
 climb-requires : tie.Need-climb-requires Inv-loop μ-loop
-climb-requires c κs = (here-length (walking (c .before .before .before .before .before .before .before .loop .inv) (c .before .before .before .before .before .before .loop-test .taken)) (left (c .before .before .before .before .before .before .before .loop .inv) (c .before .before .before .before .before .before .loop-test .taken)), c .before .before .before .code-of .ensures)
+climb-requires c κs = (here-length (walking (c .before .before .before .before .before .before .before .before .loop .inv) (c .before .before .before .before .before .before .before .loop-test .taken)) (left (c .before .before .before .before .before .before .before .before .loop .inv) (c .before .before .before .before .before .before .before .loop-test .taken)), c .before .before .before .code-of .ensures)
 
 add-records : tie.Need-add-records Inv-loop μ-loop
-add-records c = let k = records-few (walking (c .before .before .before .before .before .before .before .before .loop .inv) (c .before .before .before .before .before .before .before .loop-test .taken)) (left (c .before .before .before .before .before .before .before .before .loop .inv) (c .before .before .before .before .before .before .before .loop-test .taken)) in search needs
+add-records c = let k = records-few (walking (c .before .before .before .before .before .before .before .before .before .loop .inv) (c .before .before .before .before .before .before .before .before .loop-test .taken)) (left (c .before .before .before .before .before .before .before .before .before .loop .inv) (c .before .before .before .before .before .before .before .before .loop-test .taken)) in search needs
 
 stop-after-requires : tie.Need-stop-after-requires Inv-loop μ-loop
 stop-after-requires c κs = search needs
 
 loop-less : tie.Need-loop-less Inv-loop μ-loop
-loop-less c = passing-less (c .before .before .before .before .before .before .before .before .before .loop .inv) (c .before .before .before .before .before .before .before .before .loop-test .taken) _ (c .stop-after .ensures)
+loop-less c = passing-less (c .before .before .before .before .before .before .before .before .before .before .loop .inv) (c .before .before .before .before .before .before .before .before .before .loop-test .taken) _ (c .stop-after .ensures)
 
 loop-again : tie.Need-loop-again Inv-loop μ-loop
 loop-again c =
-    passing-next (c .before .before .before .before .before .before .before .before .before .loop .inv) (c .before .before .before .before .before .before .before .before .loop-test .taken) _ (c .stop-after .ensures) (c .before .before .before .before .before .before .before .is-at .ensures) (c .before .before .before .before .before .code-of .ensures) (c .before .before .before .step .ensures)
+    passing-next (c .before .before .before .before .before .before .before .before .before .before .loop .inv) (c .before .before .before .before .before .before .before .before .before .loop-test .taken) _ (c .stop-after .ensures) (c .before .before .before .before .before .before .before .is-at .ensures) (c .before .before .before .before .before .code-of .ensures) (c .before .before .before .step .ensures)
     (c .before .climb .ensures)
 
 returns : tie.Need-returns Inv-loop μ-loop

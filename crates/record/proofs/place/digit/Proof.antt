@@ -1,20 +1,30 @@
 use native.Mathlib.Omega.{arith}
-use Rattle.record.proofs.Numbers.{digit-at}
+use Rattle.record.proofs.Sent.{digit-told}
 use borrow.Author.Needs.{needs}
 use Rattle.record.proofs.place.digit.Statement.{statement}
 use Rattle.record.proofs.place.digit.Tie as tie
 
-byte-requires : tie.Need-byte-requires
-byte-requires c κs = search needs
+sent-byte-requires : tie.Need-sent-byte-requires
+sent-byte-requires c κs = search needs
+
+sent-as-requires : tie.Need-sent-as-requires
+sent-as-requires c κs = search needs
 
 sub-b : tie.Need-sub-b
-sub-b c = let a = c .before .before .args in omega (arith, digit-at _ _ (a .from) (a .to) (a .i) _ (search needs) (search needs) (search needs) (search needs) (c .before .before .pre .4) (c .byte .ensures))
+sub-b c =
+    let a = c .before .before .before .args in
+    let p = c .before .before .before .pre in
+    omega (arith, digit-told _ _ (a .from) (a .to) (a .i) _ _ (p .0) (p .3) (p .1) (p .2) (p .4) (c .before .sent-byte .ensures) (c .sent-as .ensures) .0)
 
 cast-result : tie.Need-cast-result
 cast-result c = search needs
 
 returns : tie.Need-returns
-returns c = let a = c .before .before .args in omega (arith, c .byte .ensures, digit-at _ _ (a .from) (a .to) (a .i) _ (search needs) (search needs) (search needs) (search needs) (c .before .before .pre .4) (c .byte .ensures))
+returns c =
+    let a = c .before .before .before .args in
+    let p = c .before .before .before .pre in
+    let t = digit-told _ _ (a .from) (a .to) (a .i) _ _ (p .0) (p .3) (p .1) (p .2) (p .4) (c .before .sent-byte .ensures) (c .sent-as .ensures) in
+    (t .2, t .1)
 
 pub digit-spec : {M : Type 1} → statement M
-digit-spec = tie.close (tie.spec byte-requires sub-b cast-result returns)
+digit-spec = tie.close (tie.spec sent-byte-requires sent-as-requires sub-b cast-result returns)

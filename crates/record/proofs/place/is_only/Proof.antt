@@ -1,52 +1,16 @@
+use Rattle.record.proofs.Sent.{only-sent}
 use borrow.Author.Needs.{needs}
-use Prim.Native.Nat.{ℕ, _≤_, _-_}
-use borrow.Author.Tests.{eq-eqb, ne-eqb}
-use lib.Dec.{eqb}
-use Rattle.record.specs.Place.{value}
-use Rattle.record.specs.Tests.{only}
-use Rattle.record.proofs.Every.{Left, left-none, every-next, every-stop, every-end, every-whole}
 use Rattle.record.proofs.place.is_only.Statement.{statement}
 use Rattle.record.proofs.place.is_only.Tie as tie
 
-abbrev Inv-loop : tie.InvT-loop
-Inv-loop rec place b n i₀ i = (i ≤ n) × Left (λ (x : ℕ). eqb x b) (value rec place) 0 n i
+sent-as-requires : tie.Need-sent-as-requires
+sent-as-requires c κs = search needs
 
-abbrev μ-loop : tie.MeasureT-loop
-μ-loop rec place b n i₀ i = n - i
+has-only-requires : tie.Need-has-only-requires
+has-only-requires c κs = search needs
 
-loop-holds : tie.Need-loop-holds Inv-loop μ-loop
-loop-holds c = search (needs, left-none)
-
-byte-requires : tie.Need-byte-requires Inv-loop μ-loop
-byte-requires c κs = search needs
-
-returns : tie.Need-returns Inv-loop μ-loop
-unfolding only
-returns c = every-whole _ _ _ _ (search needs) (search (needs, every-stop, ne-eqb))
-
-add-i : tie.Need-add-i Inv-loop μ-loop
-add-i c = search needs
-
-loop-less : tie.Need-loop-less Inv-loop μ-loop
-loop-less c = search needs
-
-loop-again : tie.Need-loop-again Inv-loop μ-loop
-loop-again c = search (needs, every-next, eq-eqb)
-
-returns-2 : tie.Need-returns-2 Inv-loop μ-loop
-unfolding only
-returns-2 c = every-whole _ _ _ _ (search needs) (search (needs, every-end))
+returns : tie.Need-returns
+returns c = search (needs, only-sent)
 
 pub is-only-spec : {M : Type 1} → statement M
-is-only-spec =
-    tie.close
-    (tie.spec
-    Inv-loop
-    μ-loop
-    loop-holds
-    byte-requires
-    returns
-    add-i
-    loop-less
-    loop-again
-    returns-2)
+is-only-spec = tie.close (tie.spec sent-as-requires has-only-requires returns)

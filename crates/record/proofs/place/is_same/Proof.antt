@@ -1,58 +1,30 @@
+use Rattle.record.proofs.Sent.{order-before, order-alike, order-after}
 use borrow.Author.Needs.{needs}
-use Prim.Native.Nat.{_≤_, _-_}
-use lib.ListN.{length}
-use mathlib.Core.Path.{_≡_, sym, _∙_}
-use Rattle.record.specs.Place.{value}
-use Rattle.record.proofs.Every.{value-length}
-use Rattle.record.proofs.Same.{Both, both-none, text-sizes, text-next, text-stop, text-end}
 use Rattle.record.proofs.place.is_same.Statement.{statement}
 use Rattle.record.proofs.place.is_same.Tie as tie
 
-abbrev Inv-loop : tie.InvT-loop
-Inv-loop rec place other there n i₀ i = (i ≤ n) × (there .width ≡ n) × (length (value other there) ≡ n) × Both (value rec place) (value other there) i
+shown-order-requires : tie.Need-shown-order-requires
+shown-order-requires c κs = search needs
 
-abbrev μ-loop : tie.MeasureT-loop
-μ-loop rec place other there n i₀ i = n - i
+enum-told : tie.Need-enum-told
+enum-told c = search needs
 
-returns : tie.Need-returns Inv-loop μ-loop
-returns c = text-sizes _ _ _ 0 (search needs) (λ e. c .if1 .taken (sym (value-length _ _ (search needs)) ∙ e))
+enum-told-2 : tie.Need-enum-told-2
+enum-told-2 c = search needs
 
-loop-holds : tie.Need-loop-holds Inv-loop μ-loop
-loop-holds c = (search needs, search needs, value-length _ _ (search needs) ∙ search needs, both-none _ _)
+enum-told-3 : tie.Need-enum-told-3
+enum-told-3 c = search needs
 
-byte-requires : tie.Need-byte-requires Inv-loop μ-loop
-byte-requires c κs = search needs
+returns : tie.Need-returns
+returns c = search (needs, order-before)
 
-byte-requires-2 : tie.Need-byte-requires-2 Inv-loop μ-loop
-byte-requires-2 c κs = search needs
+returns-2 : tie.Need-returns-2
+returns-2 c = search (needs, order-alike)
 
-returns-2 : tie.Need-returns-2 Inv-loop μ-loop
-returns-2 c = search (needs, text-stop)
-
-add-i : tie.Need-add-i Inv-loop μ-loop
-add-i c = search needs
-
-loop-less : tie.Need-loop-less Inv-loop μ-loop
-loop-less c = search needs
-
-loop-again : tie.Need-loop-again Inv-loop μ-loop
-loop-again c = (search needs, search needs, search needs, text-next _ _ _ (c .before .before .before .before .loop .i) (search needs) (c .before .before .byte .result) (c .before .byte2 .result) (search needs) (search needs) (search needs) (search needs) (search needs) (search needs))
-
-returns-3 : tie.Need-returns-3 Inv-loop μ-loop
-returns-3 c = search (needs, text-end)
+returns-3 : tie.Need-returns-3
+returns-3 c = search (needs, order-after)
 
 pub is-same-spec : {M : Type 1} → statement M
 is-same-spec =
     tie.close
-    (tie.spec
-    Inv-loop
-    μ-loop
-    returns
-    loop-holds
-    byte-requires
-    byte-requires-2
-    returns-2
-    add-i
-    loop-less
-    loop-again
-    returns-3)
+    (tie.spec shown-order-requires enum-told enum-told-2 enum-told-3 returns returns-2 returns-3)

@@ -1,5 +1,5 @@
 use Rattle.record.specs.Place.{Within, value}
-use Rattle.record.specs.Value.{held, seen}
+use Rattle.record.proofs.Held.{held-shown}
 use borrow.Author.Needs.{needs}
 use Rattle.record.proofs.place.locate.Statement.{statement}
 use Rattle.record.proofs.place.locate.Tie as tie
@@ -8,8 +8,8 @@ sub-t4 : tie.Need-sub-t4
 sub-t4 c = search needs
 
 returns : tie.Need-returns
-unfolding Within value held seen
-returns c = search needs
+unfolding Within value
+returns c = search (needs, held-shown)
 
 pub locate-spec : {M : Type 1} → statement M
 locate-spec = tie.close (tie.spec sub-t4 returns)

@@ -1,4 +1,6 @@
-use Prim.Native.Nat.{_≤_, _-_}
+use Rattle.record.specs.Value.{seen}
+use Rattle.page.proofs.Shown.{shown-least, shown-most}
+use Prim.Native.Nat.{_≤_, _-_, _*_}
 use lib.ListN.{length}
 use Rattle.repeats.proofs.Sought.{InBlock, block-begun, block-hit, block-next, block-end}
 use Rattle.repeats.proofs.Visits.{filling-tabled}
@@ -7,13 +9,13 @@ use Rattle.repeats.proofs.blocks.block.Statement.{statement}
 use Rattle.repeats.proofs.blocks.block.Tie as tie
 
 abbrev Inv-loop : tie.InvT-loop
-Inv-loop part first from best table₀ count₀ next₀ place₀ table count next place = (place ≤ best) × InBlock (length table₀) first part from best place table count next
+Inv-loop part first from best table₀ count₀ next₀ place₀ table count next place = (place ≤ best) × InBlock (length table₀) (first .number) (seen first part) from best place table count next × (best * 850 ≤ length (seen first part)) × (length (seen first part) ≤ 65535 * 850)
 
 abbrev μ-loop : tie.MeasureT-loop
 μ-loop part first from best table₀ count₀ next₀ place₀ table count next place = best - place
 
 loop-holds : tie.Need-loop-holds Inv-loop μ-loop
-loop-holds c = search (needs, block-begun)
+loop-holds c = search (needs, block-begun, shown-least, shown-most)
 
 slice-aggregate-visit : tie.Need-slice-aggregate-visit Inv-loop μ-loop
 slice-aggregate-visit c = search needs

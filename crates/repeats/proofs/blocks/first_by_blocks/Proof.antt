@@ -1,3 +1,5 @@
+use Rattle.record.specs.Value.{seen}
+use Rattle.page.proofs.Shown.{shown-records}
 use Prim.Native.Nat.{_-_, _/_}
 use mathlib.Core.Path.{_≡_}
 use lib.ListN.{length}
@@ -7,13 +9,13 @@ use Rattle.repeats.proofs.blocks.first_by_blocks.Statement.{statement}
 use Rattle.repeats.proofs.blocks.first_by_blocks.Tie as tie
 
 abbrev Inv-loop : tie.InvT-loop
-Inv-loop part first count best₀ from₀ best from = (count ≡ length part / 850) × Sought first part count best from
+Inv-loop part first count best₀ from₀ best from = (count ≡ length (seen first part) / 850) × Sought (first .number) (seen first part) count best from
 
 abbrev μ-loop : tie.MeasureT-loop
 μ-loop part first count best₀ from₀ best from = count - from
 
 loop-holds : tie.Need-loop-holds Inv-loop μ-loop
-loop-holds c = search (needs, sought-none)
+loop-holds c = search (needs, sought-none, shown-records)
 
 block-requires : tie.Need-block-requires Inv-loop μ-loop
 block-requires c κs = search needs
@@ -24,8 +26,8 @@ loop-less c = search needs
 loop-again : tie.Need-loop-again Inv-loop μ-loop
 loop-again c = search (needs, sought-next)
 
-add-t10 : tie.Need-add-t10 Inv-loop μ-loop
-add-t10 c = search needs
+add-number : tie.Need-add-number Inv-loop μ-loop
+add-number c = search needs
 
 returns : tie.Need-returns Inv-loop μ-loop
 returns c = search (needs, sought-hit)
@@ -43,6 +45,6 @@ first-by-blocks-spec =
     block-requires
     loop-less
     loop-again
-    add-t10
+    add-number
     returns
     returns-2)

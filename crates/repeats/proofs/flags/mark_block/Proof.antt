@@ -1,5 +1,8 @@
-use Prim.Native.Nat.{_-_}
+use Prim.Native.Nat.{_-_, _*_, _/_, _≤_}
+use mathlib.Core.Path.{_≡_}
 use lib.ListN.{length}
+use Rattle.page.specs.CodePage.{shown}
+use Rattle.page.proofs.Shown.{shown-records, shown-most}
 use Rattle.repeats.proofs.Flagging.{InMarking, marking-begun, index-few, flag-fits, marking-next, marking-length, marking-end, kept-end}
 use Rattle.repeats.proofs.Visits.{filling-tabled}
 use borrow.Author.Needs.{needs}
@@ -7,14 +10,14 @@ use Rattle.repeats.proofs.flags.mark_block.Statement.{statement}
 use Rattle.repeats.proofs.flags.mark_block.Tie as tie
 
 abbrev Inv-loop : tie.InvT-loop
-Inv-loop file start from index flags₀ records table₀ count₀ next₀ kept₀ flag₀ place₀ flags table count next kept flag place =
-    InMarking (length table₀) file start from place table count next kept flag flags
+Inv-loop file ascii start from index flags₀ first records table₀ count₀ next₀ kept₀ flag₀ place₀ flags table count next kept flag place =
+    InMarking (length table₀) (shown ascii file) start from place table count next kept flag flags × (records ≡ length (shown ascii file) / 850) × (length (shown ascii file) ≤ 65535 * 850)
 
 abbrev μ-loop : tie.MeasureT-loop
-μ-loop file start from index flags₀ records table₀ count₀ next₀ kept₀ flag₀ place₀ flags table count next kept flag place = records - place
+μ-loop file ascii start from index flags₀ first records table₀ count₀ next₀ kept₀ flag₀ place₀ flags table count next kept flag place = records - place
 
 loop-holds : tie.Need-loop-holds Inv-loop μ-loop
-loop-holds c = search (needs, marking-begun)
+loop-holds c = search (needs, marking-begun, shown-records, shown-most)
 
 slice-aggregate-visit : tie.Need-slice-aggregate-visit Inv-loop μ-loop
 slice-aggregate-visit c = search needs
@@ -26,7 +29,10 @@ index-after-requires : tie.Need-index-after-requires Inv-loop μ-loop
 index-after-requires c κs = search (needs, index-few)
 
 set-flag-requires : tie.Need-set-flag-requires Inv-loop μ-loop
-set-flag-requires c κs = search (needs, flag-fits)
+set-flag-requires c κs =
+    let s = c .before .before .before .before .before in
+    let i = s .before .loop .inv in
+    flag-fits _ _ _ _ (i .1) _ _ _ _ _ _ _ _ (i .0) (s .loop-test .taken) (i .2) _ (c .before .before .before .visit .ensures .0) _ (c .before .index-after .ensures)
 
 kept-index-requires : tie.Need-kept-index-requires Inv-loop μ-loop
 kept-index-requires c κs = search needs

@@ -1,3 +1,5 @@
+use Rattle.record.specs.Value.{seen}
+use Rattle.page.proofs.Shown.{shown-records}
 use Prim.Native.Nat.{_≤_, _<_, _-_, _/_}
 use mathlib.Core.Path.{_≡_}
 use lib.ListN.{length}
@@ -8,7 +10,7 @@ use Rattle.repeats.proofs.sieve.first_by_classes.Statement.{statement}
 use Rattle.repeats.proofs.sieve.first_by_classes.Tie as tie
 
 abbrev Inv-loop : tie.InvT-loop
-Inv-loop part first count classes best₀ walks₀ class₀ best walks class = (class ≤ classes) × (0 < classes) × (walks ≤ mostWalks) × (count ≡ length part / 850) × Best classes first part count best class
+Inv-loop part first count classes best₀ walks₀ class₀ best walks class = (class ≤ classes) × (0 < classes) × (walks ≤ mostWalks) × (count ≡ length (seen first part) / 850) × Best classes (first .number) (seen first part) count best class
 
 abbrev μ-loop : tie.MeasureT-loop
 μ-loop part first count classes best₀ walks₀ class₀ best walks class = classes - class
@@ -28,7 +30,7 @@ returns c = search needs
 loop-holds : tie.Need-loop-holds Inv-loop μ-loop
 loop-holds c =
     let p = c .before .before .pass .ensures (search needs) in
-    search (needs, best-first)
+    search (needs, best-first, shown-records)
 
 pass-requires-2 : tie.Need-pass-requires-2 Inv-loop μ-loop
 pass-requires-2 c κs = search needs

@@ -1,3 +1,4 @@
+use Rattle.record.specs.Value.{seen}
 use Prim.Native.Nat.{_≤_, _-_}
 use mathlib.Core.Path.{_≡_}
 use lib.ListN.{length}
@@ -10,7 +11,7 @@ use Rattle.repeats.proofs.sieve.pass.Statement.{statement}
 use Rattle.repeats.proofs.sieve.pass.Tie as tie
 
 abbrev Inv-loop : tie.InvT-loop
-Inv-loop part first classes class best walks sieve₀ walks₀ place₀ sieve walks' place = (place ≤ best) × (walks' ≤ mostWalks) × (length sieve ≡ 1024) × AllMarked classes class sieve (cut first place part) × Clean classes class first part place
+Inv-loop part first classes class best walks sieve₀ walks₀ place₀ sieve walks' place = (place ≤ best) × (walks' ≤ mostWalks) × (length sieve ≡ 1024) × AllMarked classes class sieve (cut (first .number) place (seen first part)) × Clean classes class (first .number) (seen first part) place
 
 abbrev μ-loop : tie.MeasureT-loop
 μ-loop part first classes class best walks sieve₀ walks₀ place₀ sieve walks' place = best - place

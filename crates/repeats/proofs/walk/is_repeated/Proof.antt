@@ -1,3 +1,4 @@
+use Rattle.record.specs.Value.{seen}
 use Prim.Native.Nat.{_≤_, _-_}
 use mathlib.Core.Path.{_≡_}
 use mathlib.Core.Bool.{true}
@@ -10,7 +11,7 @@ use Rattle.repeats.proofs.walk.is_repeated.Statement.{statement}
 use Rattle.repeats.proofs.walk.is_repeated.Tie as tie
 
 abbrev Inv-loop : tie.InvT-loop
-Inv-loop file first place sort earlier₀ earlier = (earlier ≤ place) × (isOf sort (recordAt first place file) ≡ true) × Ahead sort first place file earlier
+Inv-loop file first place sort earlier₀ earlier = (earlier ≤ place) × (isOf sort (recordAt (first .number) place (seen first file)) ≡ true) × Ahead sort (first .number) place (seen first file) earlier
 
 abbrev μ-loop : tie.MeasureT-loop
 μ-loop file first place sort earlier₀ earlier = place - earlier

@@ -10,10 +10,10 @@ use Rattle.repeats.proofs.walk.schedule_number.Statement.{statement}
 use Rattle.repeats.proofs.walk.schedule_number.Tie as tie
 
 abbrev Inv-loop : tie.InvT-loop
-Inv-loop file first place at end rec number line copy₀ i₀ copy i = (i ≤ 14) × (length copy ≡ 14) × Copied copy (held (seen line rec) scheduleNumber) i
+Inv-loop file place at end rec number ascii line copy₀ i₀ copy i = (i ≤ 14) × (length copy ≡ 14) × Copied copy (held (seen line rec) scheduleNumber) i
 
 abbrev μ-loop : tie.MeasureT-loop
-μ-loop file first place at end rec number line copy₀ i₀ copy i = 14 - i
+μ-loop file place at end rec number ascii line copy₀ i₀ copy i = 14 - i
 
 mul-at : tie.Need-mul-at Inv-loop μ-loop
 mul-at c = search needs
@@ -57,7 +57,7 @@ returns : tie.Need-returns Inv-loop μ-loop
 unfolding numbering
 returns c =
     let l = c .before .loop in
-    copied-there _ _ _ scheduleNumber (l .copy) (copied-whole _ _ scheduleNumber (search needs) (l .copy) (l .inv .1) (l .i) (l .inv .2) (c .loop-test .left))
+    copied-there _ _ _ _ scheduleNumber (l .copy) (copied-whole _ _ scheduleNumber (search needs) (l .copy) (l .inv .1) (l .i) (l .inv .2) (c .loop-test .left))
 
 pub schedule-number-spec : {M : Type 1} → statement M
 schedule-number-spec =

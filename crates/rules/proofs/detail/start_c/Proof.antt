@@ -1,3 +1,4 @@
+use Rattle.page.specs.CodePage.{codePage, ebcdic, twins}
 use mathlib.Core.Path.{_∙_}
 use Rattle.record.specs.Choice.{choose, _and_, _or_}
 use Rattle.record.specs.Codes.{letterByte}
@@ -10,7 +11,11 @@ use Rattle.rules.proofs.detail.start_c.Tie as tie
 slice-aggregate-field-is : tie.Need-slice-aggregate-field-is
 slice-aggregate-field-is c = search needs
 
+slice-aggregate-field-is-2 : tie.Need-slice-aggregate-field-is-2
+slice-aggregate-field-is-2 c = search needs
+
 field-is-requires : tie.Need-field-is-requires
+unfolding twins ebcdic codePage
 field-is-requires c κs = search needs
 
 composed-requires : tie.Need-composed-requires
@@ -43,6 +48,7 @@ start-c-spec =
     tie.close
     (tie.spec
     slice-aggregate-field-is
+    slice-aggregate-field-is-2
     field-is-requires
     composed-requires
     note-requires

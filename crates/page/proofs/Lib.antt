@@ -1,0 +1,3 @@
+pub mod CodePage
+pub mod Shown
+pub mod Unique

@@ -1,0 +1,15 @@
+-- Each public function's contract allows one result for the same arguments: stated over the contract itself.
+-- Assumes nothing.
+use mathlib.Core.Path.{_≡_, sym, _∙_}
+use Rattle.page.proofs.translate.Reads as translate
+use Rattle.page.proofs.is_ascii.Reads as is-ascii
+
+-- any two results that a contract allows for the same arguments are equal
+abbrev OneResult : {K : Type 0} {A R X : K → Type 0} → ((κs : K) → A κs → R κs → X κs → Type 0) → Type 0
+OneResult {K} {A} {R} {X} Q = (κs : K) (a : A κs) (r s : R κs) (x y : X κs) → Q κs a r x → Q κs a s y → r ≡ s
+
+pub translate-unique : OneResult translate.Post
+translate-unique κs a r s x y p q = p ∙ sym q
+
+pub is-ascii-unique : OneResult is-ascii.Post
+is-ascii-unique κs a r s x y p q = p ∙ sym q
