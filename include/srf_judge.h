@@ -35,6 +35,11 @@ extern "C" {
  * is passed as any pointer that is not null, with size 0. The report may not overlap the file or the book; these two may overlap. Nobody
  * may write to the file or the book during the call, or read or write the report.
  *
+ * Code page: the file is EBCDIC or ASCII. One whose first two bytes are hex 46 48 (FH) is ASCII throughout: its bytes 20 to 7E count as
+ * the matching bytes of code page 037, all others as hex 3F, and the answer and the report are those of the file so translated; the lent
+ * bytes stay as they are. Any other file is taken as it is, also one of fewer than two bytes. The book is EBCDIC for both, and the report
+ * is the same for both.
+ *
  * Returned: 0 where the file is accepted, else reason * 100,000 + record (SRF_REASON, SRF_RECORD).
  *
  * Written: on 0, the head and then a row for each batch in file order, from the report's start; the bytes past the last row stay as they
@@ -65,7 +70,7 @@ enum srf_file_reason {
     SRF_BOOK_UNSOUND = 4,       /* code book unsound [0] */
     SRF_NESTING = 5,            /* nesting [the first that begins no legal file, or last + 1] */
     SRF_REPORT_TOO_SHORT = 6,   /* report shorter than 64 * (1 + batches) bytes [0] */
-    SRF_LOW_BYTE = 7,           /* a byte below hex 40 outside fillers [the first with one] */
+    SRF_LOW_BYTE = 7,           /* a byte below hex 40 outside fillers; in ASCII, one outside 20 to 7E [the first with one] */
     SRF_INPUT_SYSTEM = 8,       /* InputSystem blank or not in the book [1] */
     SRF_VERSION = 9,            /* version not 201 [1] */
     SRF_TRAILER_NON_DIGIT = 10, /* a number in FT with a non-digit [last] */

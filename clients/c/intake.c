@@ -1,4 +1,4 @@
-/* The intake as a client of the judge: intake BOOK FILE says in words what the judge answers to a file.
+/* The intake as a client of the judge: intake BOOK FILE says in words what the judge answers to a file, EBCDIC or ASCII.
  *
  * Exit status: 0 accepted and every batch sound, 1 accepted with rejected batches, 2 refused, 3 no judgement.
  */
@@ -7,6 +7,7 @@
 
 #include <errno.h>
 #include <inttypes.h>
+#include <stdbool.h>
 #include <stdio.h>
 #include <stdlib.h>
 #include <string.h>
@@ -253,6 +254,12 @@ static enum status fail(const char *what, const char *fault)
     return NOT_JUDGED;
 }
 
+/* As the judge tells it (02 W2). Numbers, since what 'F' and 'H' are is up to the compiler. */
+static bool is_ascii(struct space file)
+{
+    return file.size >= 2 && file.bytes[0] == 0x46 && file.bytes[1] == 0x48;
+}
+
 static enum status judge(struct space book, struct space file)
 {
     size_t size = SRF_REPORT_SIZE(file.size);
@@ -262,6 +269,9 @@ static enum status judge(struct space book, struct space file)
     if (report == NULL)
         return fail("report", strerror(errno));
     uint64_t answer = srf_judge(file.bytes, file.size, book.bytes, book.size, report, size);
+    /* A line of its own: the others are the same for a file in either code. */
+    if (is_ascii(file))
+        puts("ASCII file");
     status = answer == 0 ? print_report(report) : print_refusal(answer, file.size / SRF_RECORD_SIZE);
     free(report);
     return status;

@@ -66,6 +66,17 @@ def kinds():
     return whole(FH, put(BN, f9=amount(cents)), *payments, put(BT, f99="%08d" % 11, f100=amount(cents)), payments=11, cents=cents)
 
 
+def tab():
+    """A tab in a Payment ID, in detail and DX alike: otherwise they would not nest."""
+    ident = held(DN, 23).strip().replace("-", "\t")
+    return whole(FH, BN, put(DN, f23=ident), put(DX, f65=ident), BT)
+
+
+def in_ascii(file):
+    """The file as an ASCII sender writes it (02 W2)."""
+    return file.decode("cp037").encode("ascii")
+
+
 SAMPLES = {
     "sound": shipped,
     "large": large(),
@@ -77,6 +88,10 @@ SAMPLES = {
     "short": shipped[:4 * 850],
     "cut": shipped[:-1],
     "empty": b"",
+    "sound-ascii": in_ascii(shipped),
+    "shuffled-ascii": in_ascii(shuffled()),
+    "rejected-ascii": in_ascii(rejected()),
+    "tab-ascii": in_ascii(tab()),
 }
 
 for name, file in SAMPLES.items():
