@@ -1,7 +1,6 @@
 // Batches whose schedule number an earlier batch has, all at once: the numbers of a block of headers stand in a sorted table on the stack, and
 // every later header is looked up in it, so that each block costs one pass whatever the numbers are.
 use crate::Sort;
-use crate::blocks::TABLE;
 use crate::blocks::visit;
 use record::Line;
 ghost use mathlib.Core.Path.{_≡_};
@@ -15,6 +14,9 @@ ghost use Rattle.repeats.specs.Repeats.{numbers};
 ghost use Rattle.repeats.specs.Blocks.{between};
 ghost use Rattle.repeats.specs.Marking.{zeros, indexAfter, Marked};
 ghost use Rattle.repeats.specs.Schedules.{numbersBefore, numbersFrom, flagsOf};
+
+// The schedule numbers that a block has room for: half as many as a block of Payment IDs, since the table stands in the entry's own frame.
+const TABLE: usize = 2048;
 
 // Where the next block begins, and the index of the flag of the first header from there on.
 struct NextBlock {
@@ -109,8 +111,8 @@ fn mark_block(
     }
 }
 
-// Marks each batch from the start on: 1 where an earlier batch of the file has its number, else 0. The first block stands apart: a function that
-// is called in two places keeps a frame of its own, so that its table is on the stack only while it runs.
+// Marks each batch from the start on: 1 where an earlier batch of the file has its number, else 0. The first block begins at
+// the file's start, and each that follows where the one before it ends.
 pub(crate) fn mark_batches(file: &[u8], ascii: bool, start: usize, flags: &mut [u8])
     requires { ⌜ (start * 850 + 850 ≤ length (now file)) × (length (now file) ≤ 65535 * 850) × (length (now flags) ≡ length (numbersFrom (shown ascii (now file)) start)) ⌝ }
     ensures { λ r. ⌜ now (flags .exit) ≡ flagsOf (numbersBefore (shown ascii (now (file .entry))) start) (numbersFrom (shown ascii (now (file .entry))) start) ⌝ }
