@@ -258,17 +258,23 @@ text-sent rec p text ascii w r t e h = go (p .ascii) refl
         let v : w ≡ text = rw q at e in
         h ∙ rw (v, plain-sent rec p q)
 
--- the order of two values, neither of which is ASCII
+-- two values, neither of which is ASCII
 neither : (a b : Bool) → (a or b) ≡ false → (a ≡ false) × (b ≡ false)
 unfolding _or_
 neither true b e = absurd (true≢false e)
 neither false b e = (refl, e)
 
-pub order-sent : (rec : List ℕ) (p : Place) (other : List ℕ) (q : Place) (t : Bool) (r : Order) → t ≡ (p .ascii or q .ascii) → t ≡ false → r ≡ order (sent rec p) (sent other q)
-    → r ≡ order (value rec p) (value other q)
-order-sent rec p other q t r e f h = let n = neither (p .ascii) (q .ascii) (sym e ∙ f) in h ∙ rw (plain-sent rec p (n .0), plain-sent other q (n .1))
+module _ (rec : List ℕ) (p : Place) (other : List ℕ) (q : Place) (t : Bool) (e : t ≡ (p .ascii or q .ascii)) (f : t ≡ false) where
+  as-sent : (value rec p ≡ sent rec p) × (value other q ≡ sent other q)
+  as-sent = let n = neither (p .ascii) (q .ascii) (sym e ∙ f) in (plain-sent rec p (n .0), plain-sent other q (n .1))
 
--- and what it says of their being the same
+  pub order-sent : (r : Order) → r ≡ order (sent rec p) (sent other q) → r ≡ order (value rec p) (value other q)
+  order-sent r h = h ∙ rw (as-sent .0, as-sent .1)
+
+  pub same-sent : (r : Bool) → r ≡ alike (sent rec p) (sent other q) → r ≡ alike (value rec p) (value other q)
+  same-sent r h = h ∙ rw (as-sent .0, as-sent .1)
+
+-- what their order says of their being the same
 pub order-alike : (xs ys : List ℕ) (r : Order) → r ≡ order xs ys → r ≡ Same → true ≡ alike xs ys
 order-alike xs ys r e f = rw (order-equal xs ys (sym e ∙ f)) (sym (alike-self ys))
 

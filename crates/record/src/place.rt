@@ -319,19 +319,20 @@ fn either(a: bool, b: bool) -> bool
     b
 }
 
-// How the first value stands to the second in the order of bytes.
+// How the first value stands to the second in the order of bytes. What is translated is lent anew, so that nothing of it is kept on the stack
+// where nothing is.
 pub(crate) fn compare(rec: &[u8], place: Place, other: &[u8], there: Place) -> Order
     requires { ⌜ Within (now rec) place × Within (now other) there ⌝ }
     ensures { λ r. ⌜ r ≡ order (value (now (rec .entry)) place) (value (now (other .entry)) there) ⌝ }
 {
     if either(place.ascii, there.ascii) {
-        return shown_order(rec, place, other, there);
+        return shown_order(&rec[..], place, &other[..], there);
     }
     sent_order(rec, place, other, there)
 }
 
-// The two values are the same.
-pub(crate) fn is_same(rec: &[u8], place: Place, other: &[u8], there: Place) -> bool
+// The two values are the same, byte by byte as they are seen.
+fn shown_same(rec: &[u8], place: Place, other: &[u8], there: Place) -> bool
     requires { ⌜ Within (now rec) place × Within (now other) there ⌝ }
     ensures { λ r. ⌜ r ≡ alike (value (now (rec .entry)) place) (value (now (other .entry)) there) ⌝ }
 {
@@ -340,4 +341,34 @@ pub(crate) fn is_same(rec: &[u8], place: Place, other: &[u8], there: Place) -> b
         Order::Same => true,
         Order::After => false,
     }
+}
+
+// The same of the bytes as they were sent.
+fn sent_same(rec: &[u8], place: Place, other: &[u8], there: Place) -> bool
+    requires { ⌜ Within (now rec) place × Within (now other) there ⌝ }
+    ensures { λ r. ⌜ r ≡ alike (sent (now (rec .entry)) place) (sent (now (other .entry)) there) ⌝ }
+{
+    let n = place.width;
+    if there.width != n {
+        return false;
+    }
+    let mut i = 0;
+    while i < n {
+        if sent_byte(rec, place, i) != sent_byte(other, there, i) {
+            return false;
+        }
+        i += 1;
+    }
+    true
+}
+
+// The two values are the same.
+pub(crate) fn is_same(rec: &[u8], place: Place, other: &[u8], there: Place) -> bool
+    requires { ⌜ Within (now rec) place × Within (now other) there ⌝ }
+    ensures { λ r. ⌜ r ≡ alike (value (now (rec .entry)) place) (value (now (other .entry)) there) ⌝ }
+{
+    if either(place.ascii, there.ascii) {
+        return shown_same(&rec[..], place, &other[..], there);
+    }
+    sent_same(rec, place, other, there)
 }

@@ -1,30 +1,23 @@
-use Rattle.record.proofs.Sent.{order-before, order-alike, order-after}
+use Rattle.record.proofs.Sent.{same-sent}
 use borrow.Author.Needs.{needs}
 use Rattle.record.proofs.place.is_same.Statement.{statement}
 use Rattle.record.proofs.place.is_same.Tie as tie
 
-shown-order-requires : tie.Need-shown-order-requires
-shown-order-requires c κs = search needs
+either-requires : tie.Need-either-requires
+either-requires c κs = search needs
 
-enum-told : tie.Need-enum-told
-enum-told c = search needs
-
-enum-told-2 : tie.Need-enum-told-2
-enum-told-2 c = search needs
-
-enum-told-3 : tie.Need-enum-told-3
-enum-told-3 c = search needs
+shown-same-requires : tie.Need-shown-same-requires
+shown-same-requires c κs = search needs
 
 returns : tie.Need-returns
-returns c = search (needs, order-before)
+returns c = search needs
+
+sent-same-requires : tie.Need-sent-same-requires
+sent-same-requires c κs = search needs
 
 returns-2 : tie.Need-returns-2
-returns-2 c = search (needs, order-alike)
-
-returns-3 : tie.Need-returns-3
-returns-3 c = search (needs, order-after)
+returns-2 c = search (needs, same-sent)
 
 pub is-same-spec : {M : Type 1} → statement M
 is-same-spec =
-    tie.close
-    (tie.spec shown-order-requires enum-told enum-told-2 enum-told-3 returns returns-2 returns-3)
+    tie.close (tie.spec either-requires shown-same-requires returns sent-same-requires returns-2)
