@@ -4,6 +4,7 @@ use crate::walk::State;
 use book::Book;
 use record::Line;
 use record::codes::Code;
+use record::codes::code_bytes;
 use record::codes::code_of;
 use record::codes::is_trailer;
 use repeats::Repeat;
@@ -79,7 +80,7 @@ pub(crate) fn walk_batch(
             ascii: first.ascii,
         };
         let repeated = is_at(told, number);
-        let code = code_of(&rest[at..end], line);
+        let code = code_of(code_bytes(&rest[at..end], line));
         state = walk::step(book, shelves, &rest[at..end], line, code, state, repeated);
         climbing = climb(&rest[at..end], line, code, climbing);
         records += 1;

@@ -9,6 +9,7 @@ use reasons::Finding;
 use record::Line;
 use record::codes::Code;
 use record::codes::Letter;
+use record::codes::code_bytes;
 use record::codes::code_of;
 use record::codes::letter_in;
 use record::layout::*;
@@ -88,7 +89,7 @@ fn read_header(book: &[u8], shelves: Book, rec: &[u8], line: Line, crowded: bool
     ensures { λ r. ⌜ r ≡ head (listedAt (now (book .entry)) shelves) crowded (line .number) (seen line (now (rec .entry))) ⌝ }
 {
     let number = line.number;
-    let code = code_of(rec, line);
+    let code = code_of(code_bytes(rec, line));
     let letter = letter_in(code);
     let payer = lookups::location(book, shelves, rec, line, AGENCY_LOCATION_CODE);
     let symbol = rules::symbol_of(rec, line);

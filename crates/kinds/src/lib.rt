@@ -2,6 +2,7 @@
 use record::Field;
 use record::Line;
 use record::codes::Code;
+use record::codes::code_bytes;
 use record::codes::code_of;
 use tables::enter;
 ghost use mathlib.Core.Path.{_≡_};
@@ -43,7 +44,7 @@ fn has_kind(file: &[u8], first: Line, place: usize) -> bool
     let end = at + 850;
     let number = first.number + place;
     let ascii = first.ascii;
-    let code = code_of(&file[at..end], Line { number, ascii });
+    let code = code_of(code_bytes(&file[at..end], Line { number, ascii }));
     is_account(code)
 }
 

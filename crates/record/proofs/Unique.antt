@@ -12,6 +12,7 @@ use Rattle.record.proofs.part_digits.Reads as part-digits
 use Rattle.record.proofs.part_number.Reads as part-number
 use Rattle.record.proofs.fields_same.Reads as fields-same
 use Rattle.record.proofs.fields_order.Reads as fields-order
+use Rattle.record.proofs.codes.code_bytes.Reads as code-bytes
 use Rattle.record.proofs.codes.code_of.Reads as code-of
 use Rattle.record.proofs.codes.is_detail.Reads as is-detail
 use Rattle.record.proofs.codes.is_header.Reads as is-header
@@ -55,6 +56,9 @@ fields-same-unique κs a r s x y p q = p ∙ sym q
 
 pub fields-order-unique : OneResult fields-order.Post
 fields-order-unique κs a r s x y p q = p ∙ sym q
+
+pub code-bytes-unique : OneResult code-bytes.Post
+code-bytes-unique κs a r s x y p q = p ∙ sym q
 
 pub code-of-unique : OneResult code-of.Post
 code-of-unique κs a r s x y p q = p ∙ sym q

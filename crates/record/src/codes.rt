@@ -6,7 +6,8 @@ ghost use Prim.Native.Nat.{_≤_};
 ghost use lib.ListN.{length};
 ghost use Rattle.record.specs.Fields.{recordCode};
 ghost use Rattle.record.specs.Value.{seen, held};
-ghost use Rattle.record.specs.Codes.{codeOf, codeIn, details, batches, frames, isDetail, isHeader, isTrailer, letterIn};
+ghost use Rattle.record.specs.Tests.{alike};
+ghost use Rattle.record.specs.Codes.{codeIn, codes, details, batches, frames, isDetail, isHeader, isTrailer, letterIn};
 
 // The kind of a batch and of its details.
 pub enum Letter {
@@ -30,84 +31,102 @@ pub enum Code {
     Unknown,
 }
 
-// The code of a record that frames the file or ends a batch.
-fn frame_code(rec: &[u8], line: Line) -> Code
+// The two bytes with which a record begins.
+pub fn code_bytes(rec: &[u8], line: Line) -> [u8; 2]
     requires { ⌜ 2 ≤ length (now rec) ⌝ }
-    ensures { λ r. ⌜ r ≡ codeIn frames (held (seen line (now (rec .entry))) recordCode) ⌝ }
+    ensures { λ r. ⌜ r ≡ held (seen line (now (rec .entry))) recordCode ⌝ }
 {
-    if crate::field_is(rec, line, RECORD_CODE, b"\xC6\xC8", b"FH") {
+    let first = crate::part_byte(rec, line, RECORD_CODE, 0);
+    let second = crate::part_byte(rec, line, RECORD_CODE, 1);
+    [first, second]
+}
+
+// The bytes are those of this code.
+fn is_code(bytes: [u8; 2], text: &[u8]) -> bool
+    requires { ⌜ length (now text) ≡ 2 ⌝ }
+    ensures { λ r. ⌜ r ≡ alike bytes (now (text .entry)) ⌝ }
+{
+    if bytes[0] != text[0] {
+        return false;
+    }
+    bytes[1] == text[1]
+}
+
+// The code of a record that frames the file or ends a batch.
+fn frame_code(bytes: [u8; 2]) -> Code
+    ensures { λ r. ⌜ r ≡ codeIn frames bytes ⌝ }
+{
+    if is_code(bytes, b"\xC6\xC8") {
         return Code::FileHeader;
     }
-    if crate::field_is(rec, line, RECORD_CODE, b"\xC2\xE3", b"BT") {
+    if is_code(bytes, b"\xC2\xE3") {
         return Code::BatchTrailer;
     }
-    if crate::field_is(rec, line, RECORD_CODE, b"\xC6\xE3", b"FT") {
+    if is_code(bytes, b"\xC6\xE3") {
         return Code::FileTrailer;
     }
     Code::Unknown
 }
 
 // The code of a batch header, or of a record that the function above names.
-fn batch_code(rec: &[u8], line: Line) -> Code
-    requires { ⌜ 2 ≤ length (now rec) ⌝ }
-    ensures { λ r. ⌜ r ≡ codeIn batches (held (seen line (now (rec .entry))) recordCode) ⌝ }
+fn batch_code(bytes: [u8; 2]) -> Code
+    ensures { λ r. ⌜ r ≡ codeIn batches bytes ⌝ }
 {
-    if crate::field_is(rec, line, RECORD_CODE, b"\xC2\xD5", b"BN") {
+    if is_code(bytes, b"\xC2\xD5") {
         return Code::Batch(Letter::N);
     }
-    if crate::field_is(rec, line, RECORD_CODE, b"\xC2\xC3", b"BC") {
+    if is_code(bytes, b"\xC2\xC3") {
         return Code::Batch(Letter::C);
     }
-    if crate::field_is(rec, line, RECORD_CODE, b"\xC2\xE6", b"BW") {
+    if is_code(bytes, b"\xC2\xE6") {
         return Code::Batch(Letter::W);
     }
-    if crate::field_is(rec, line, RECORD_CODE, b"\xC2\xC9", b"BI") {
+    if is_code(bytes, b"\xC2\xC9") {
         return Code::Batch(Letter::I);
     }
-    if crate::field_is(rec, line, RECORD_CODE, b"\xC2\xC1", b"BA") {
+    if is_code(bytes, b"\xC2\xC1") {
         return Code::Batch(Letter::A);
     }
-    frame_code(rec, line)
+    frame_code(bytes)
 }
 
 // The code of a detail, or of a record that the function above names.
-fn detail_code(rec: &[u8], line: Line) -> Code
-    requires { ⌜ 2 ≤ length (now rec) ⌝ }
-    ensures { λ r. ⌜ r ≡ codeIn details (held (seen line (now (rec .entry))) recordCode) ⌝ }
+fn detail_code(bytes: [u8; 2]) -> Code
+    ensures { λ r. ⌜ r ≡ codeIn details bytes ⌝ }
 {
-    if crate::field_is(rec, line, RECORD_CODE, b"\xC4\xD5", b"DN") {
+    if is_code(bytes, b"\xC4\xD5") {
         return Code::Detail(Letter::N);
     }
-    if crate::field_is(rec, line, RECORD_CODE, b"\xC4\xC3", b"DC") {
+    if is_code(bytes, b"\xC4\xC3") {
         return Code::Detail(Letter::C);
     }
-    if crate::field_is(rec, line, RECORD_CODE, b"\xC4\xE6", b"DW") {
+    if is_code(bytes, b"\xC4\xE6") {
         return Code::Detail(Letter::W);
     }
-    if crate::field_is(rec, line, RECORD_CODE, b"\xC4\xC9", b"DI") {
+    if is_code(bytes, b"\xC4\xC9") {
         return Code::Detail(Letter::I);
     }
-    if crate::field_is(rec, line, RECORD_CODE, b"\xC4\xC1", b"DA") {
+    if is_code(bytes, b"\xC4\xC1") {
         return Code::Detail(Letter::A);
     }
-    batch_code(rec, line)
+    batch_code(bytes)
 }
 
-// The code of a record: one of the sixteen of 004, or `Unknown`.
-pub fn code_of(rec: &[u8], line: Line) -> Code
-    requires { ⌜ 2 ≤ length (now rec) ⌝ }
-    ensures { λ r. ⌜ r ≡ codeOf (seen line (now (rec .entry))) ⌝ }
+// The code that these bytes name: one of the sixteen of 004, or `Unknown`. It is apart from reading them, so that each is small enough to be
+// drawn into the loops over a file's records.
+pub fn code_of(bytes: [u8; 2]) -> Code
+    ensures { λ r. ⌜ r ≡ codeIn codes bytes ⌝ }
 {
-    if crate::field_is(rec, line, RECORD_CODE, b"\xC4\xE7", b"DX") {
+    if is_code(bytes, b"\xC4\xE7") {
         return Code::Party;
     }
-    if crate::field_is(rec, line, RECORD_CODE, b"\xC4\xE3", b"DT") {
+    if is_code(bytes, b"\xC4\xE3") {
         return Code::Account;
     }
-    if crate::field_is(rec, line, RECORD_CODE, b"\xC4\xD7", b"DP") {
+    if is_code(bytes, b"\xC4\xD7") {
         return Code::Procurement;
     }
-    detail_code(rec, line)
+    detail_code(bytes)
 }
 
 // The code is a detail's.

@@ -2,6 +2,7 @@
 use crate::Sort;
 use record::Field;
 use record::Line;
+use record::codes::code_bytes;
 use record::codes::code_of;
 use record::codes::is_detail;
 use record::codes::is_header;
@@ -37,7 +38,7 @@ pub(crate) fn is_of(file: &[u8], first: Line, place: usize, sort: Sort) -> bool
     let end = at + 850;
     let number = first.number + place;
     let ascii = first.ascii;
-    let code = code_of(&file[at..end], Line { number, ascii });
+    let code = code_of(code_bytes(&file[at..end], Line { number, ascii }));
     match sort {
         Sort::Payments => is_detail(code),
         Sort::Batches => is_header(code),

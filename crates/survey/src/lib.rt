@@ -5,6 +5,7 @@ use money::Amount;
 use nesting::Verdict;
 use nesting::reader;
 use record::Line;
+use record::codes::code_bytes;
 use record::codes::code_of;
 ghost use mathlib.Core.Path.{_≡_};
 ghost use Rattle.page.specs.CodePage.{shown};
@@ -44,7 +45,7 @@ pub fn survey_file(file: &[u8], ascii: bool) -> Survey
         let rec = &file[at..end];
         number += 1;
         let line = Line { number, ascii };
-        let code = code_of(rec, line);
+        let code = code_of(code_bytes(rec, line));
         let state = going.state;
         if !reader::fits(rec, line, code, state) {
             return refuse(number);
