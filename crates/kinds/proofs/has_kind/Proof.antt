@@ -1,3 +1,4 @@
+use Rattle.record.proofs.CodeList.{code-read}
 use Rattle.kinds.proofs.Counts.{at-place}
 use borrow.Author.Needs.{needs}
 use Rattle.kinds.proofs.has_kind.Statement.{statement}
@@ -12,14 +13,17 @@ add-end c = search needs
 add-number : tie.Need-add-number
 add-number c = search needs
 
-sub-code-of : tie.Need-sub-code-of
-sub-code-of c = search needs
+sub-code-bytes : tie.Need-sub-code-bytes
+sub-code-bytes c = search needs
 
-part-code-of-start : tie.Need-part-code-of-start
-part-code-of-start c = search needs
+part-code-bytes-start : tie.Need-part-code-bytes-start
+part-code-bytes-start c = search needs
 
-part-code-of-end : tie.Need-part-code-of-end
-part-code-of-end c = search needs
+part-code-bytes-end : tie.Need-part-code-bytes-end
+part-code-bytes-end c = search needs
+
+code-bytes-requires : tie.Need-code-bytes-requires
+code-bytes-requires c κs = search needs
 
 code-of-requires : tie.Need-code-of-requires
 code-of-requires c κs = search needs
@@ -28,7 +32,7 @@ is-account-requires : tie.Need-is-account-requires
 is-account-requires c κs = search needs
 
 returns : tie.Need-returns
-returns c = search (needs, at-place)
+returns c = search (needs, at-place, code-read)
 
 pub has-kind-spec : {M : Type 1} → statement M
 has-kind-spec =
@@ -37,9 +41,10 @@ has-kind-spec =
     mul-at
     add-end
     add-number
-    sub-code-of
-    part-code-of-start
-    part-code-of-end
+    sub-code-bytes
+    part-code-bytes-start
+    part-code-bytes-end
+    code-bytes-requires
     code-of-requires
     is-account-requires
     returns)

@@ -2,6 +2,7 @@ use Prim.Native.Nat.{_-_, _≤_}
 use lib.ListN.{length}
 use Rattle.page.specs.CodePage.{shown}
 use Rattle.record.proofs.Chain.{told-not, told-yes}
+use Rattle.record.proofs.CodeList.{code-read}
 use Rattle.survey.proofs.Turns.{Surveying, surveying, within-next, number-few, turned, stopped, closed, unclosed}
 use borrow.Author.Needs.{needs}
 use Rattle.survey.proofs.survey_file.Statement.{statement}
@@ -34,6 +35,9 @@ part-rec-end c = search needs
 add-number : tie.Need-add-number Inv-loop μ-loop
 add-number c = search needs
 
+code-bytes-requires : tie.Need-code-bytes-requires Inv-loop μ-loop
+code-bytes-requires c κs = search needs
+
 code-of-requires : tie.Need-code-of-requires Inv-loop μ-loop
 code-of-requires c κs = search needs
 
@@ -45,27 +49,27 @@ refuse-requires c κs = search needs
 
 returns : tie.Need-returns Inv-loop μ-loop
 returns c =
-    let d = c .before .before .before .before .before .before .before in
+    let d = c .before .before .before .before .before .before .before .before in
     let e = d .before .before in
-    let h = c .before .before .before .before .before .before .loop-test .taken in
-    stopped _ _ _ _ _ (e .before .pre) (d .loop .inv .0) _ h (c .before .before .before .before .code-of .ensures) _ (c .before .before .fits2 .ensures)
+    let h = c .before .before .before .before .before .before .before .loop-test .taken in
+    stopped _ _ _ _ _ (e .before .pre) (d .loop .inv .0) _ h (code-read _ _ _ (c .before .before .before .before .before .code-bytes .ensures) (c .before .before .before .before .code-of .ensures)) _ (c .before .before .fits2 .ensures)
     (λ i. e .shared-slice-known .given i .fits) (c .before .if1 .taken) _ (c .refuse .ensures)
 
 step-requires : tie.Need-step-requires Inv-loop μ-loop
 step-requires c κs =
-    let d = c .before .before .before .before .before .before in
+    let d = c .before .before .before .before .before .before .before in
     let l = d .loop .inv .0 in
-    let h = c .before .before .before .before .before .loop-test .taken in
-    (search needs, number-few _ _ _ _ _ (d .before .before .before .pre) l h, c .before .before .before .code-of .ensures, told-yes _ _ (c .before .fits2 .ensures) (c .if1 .left), l .room)
+    let h = c .before .before .before .before .before .before .loop-test .taken in
+    (search needs, number-few _ _ _ _ _ (d .before .before .before .pre) l h, (code-read _ _ _ (c .before .before .before .before .code-bytes .ensures) (c .before .before .before .code-of .ensures)), told-yes _ _ (c .before .fits2 .ensures) (c .if1 .left), l .room)
 
 loop-less : tie.Need-loop-less Inv-loop μ-loop
 loop-less c = search needs
 
 loop-again : tie.Need-loop-again Inv-loop μ-loop
 loop-again c =
-    let d = c .before .before .before .before .before .before .before in
-    let h = c .before .before .before .before .before .before .loop-test .taken in
-    (turned _ _ _ _ _ (d .before .before .before .pre) (d .loop .inv .0) _ h (c .before .before .before .before .code-of .ensures) _ (c .before .before .fits2 .ensures) (c .before .if1 .left) _ (c .step .ensures), within-next _ _ _ _ _ (d .before .before .before .pre) (d .loop .inv .0) h)
+    let d = c .before .before .before .before .before .before .before .before in
+    let h = c .before .before .before .before .before .before .before .loop-test .taken in
+    (turned _ _ _ _ _ (d .before .before .before .pre) (d .loop .inv .0) _ h (code-read _ _ _ (c .before .before .before .before .before .code-bytes .ensures) (c .before .before .before .before .code-of .ensures)) _ (c .before .before .fits2 .ensures) (c .before .if1 .left) _ (c .step .ensures), within-next _ _ _ _ _ (d .before .before .before .pre) (d .loop .inv .0) h)
 
 is-at-requires : tie.Need-is-at-requires Inv-loop μ-loop
 is-at-requires c κs = search needs
@@ -103,6 +107,7 @@ survey-file-spec =
     part-rec-start
     part-rec-end
     add-number
+    code-bytes-requires
     code-of-requires
     fits-requires
     refuse-requires

@@ -1,3 +1,4 @@
+use Rattle.record.proofs.CodeList.{code-read}
 use Prim.Native.Nat.{_-_}
 use Rattle.book.specs.Book.{listedAt}
 use Rattle.batch.proofs.Turns.{Passing, first-sent, passing-begun, walking, left, room-here, end-within, end-few, number-few, records-few, here-length, passing-less, passing-next}
@@ -36,14 +37,17 @@ add-number c = let k = number-few (walking (c .before .before .loop .inv) (c .be
 is-at-requires : tie.Need-is-at-requires Inv-loop μ-loop
 is-at-requires c κs = search needs
 
-sub-code-of : tie.Need-sub-code-of Inv-loop μ-loop
-sub-code-of c = search needs
+sub-code-bytes : tie.Need-sub-code-bytes Inv-loop μ-loop
+sub-code-bytes c = search needs
 
-part-code-of-start : tie.Need-part-code-of-start Inv-loop μ-loop
-part-code-of-start c = search needs
+part-code-bytes-start : tie.Need-part-code-bytes-start Inv-loop μ-loop
+part-code-bytes-start c = search needs
 
-part-code-of-end : tie.Need-part-code-of-end Inv-loop μ-loop
-part-code-of-end c = let k = end-within (walking (c .before .before .before .loop .inv) (c .before .before .loop-test .taken)) (left (c .before .before .before .loop .inv) (c .before .before .loop-test .taken)) in search needs
+part-code-bytes-end : tie.Need-part-code-bytes-end Inv-loop μ-loop
+part-code-bytes-end c = let k = end-within (walking (c .before .before .before .loop .inv) (c .before .before .loop-test .taken)) (left (c .before .before .before .loop .inv) (c .before .before .loop-test .taken)) in search needs
+
+code-bytes-requires : tie.Need-code-bytes-requires Inv-loop μ-loop
+code-bytes-requires c κs = search needs
 
 code-of-requires : tie.Need-code-of-requires Inv-loop μ-loop
 code-of-requires c κs = search needs
@@ -55,13 +59,13 @@ part-step-start : tie.Need-part-step-start Inv-loop μ-loop
 part-step-start c = search needs
 
 part-step-end : tie.Need-part-step-end Inv-loop μ-loop
-part-step-end c = let k = end-within (walking (c .before .before .before .before .before .loop .inv) (c .before .before .before .before .loop-test .taken)) (left (c .before .before .before .before .before .loop .inv) (c .before .before .before .before .loop-test .taken)) in search needs
+part-step-end c = let k = end-within (walking (c .before .before .before .before .before .before .loop .inv) (c .before .before .before .before .before .loop-test .taken)) (left (c .before .before .before .before .before .before .loop .inv) (c .before .before .before .before .before .loop-test .taken)) in search needs
 
 step-requires : tie.Need-step-requires Inv-loop μ-loop
 step-requires c κs =
-    let l = walking (c .before .before .before .before .before .before .loop .inv) (c .before .before .before .before .before .loop-test .taken) in
-    let h = left (c .before .before .before .before .before .before .loop .inv) (c .before .before .before .before .before .loop-test .taken) in
-    (search needs, here-length l h, c .before .code-of .ensures, room-here l, number-few l h)
+    let l = walking (c .before .before .before .before .before .before .before .loop .inv) (c .before .before .before .before .before .before .loop-test .taken) in
+    let h = left (c .before .before .before .before .before .before .before .loop .inv) (c .before .before .before .before .before .before .loop-test .taken) in
+    (search needs, here-length l h, (code-read _ _ _ (c .before .before .code-bytes .ensures) (c .before .code-of .ensures)), room-here l, number-few l h)
 
 sub-climb : tie.Need-sub-climb Inv-loop μ-loop
 sub-climb c = search needs
@@ -70,23 +74,23 @@ part-climb-start : tie.Need-part-climb-start Inv-loop μ-loop
 part-climb-start c = search needs
 
 part-climb-end : tie.Need-part-climb-end Inv-loop μ-loop
-part-climb-end c = let k = end-within (walking (c .before .before .before .before .before .before .before .loop .inv) (c .before .before .before .before .before .before .loop-test .taken)) (left (c .before .before .before .before .before .before .before .loop .inv) (c .before .before .before .before .before .before .loop-test .taken)) in search needs
+part-climb-end c = let k = end-within (walking (c .before .before .before .before .before .before .before .before .loop .inv) (c .before .before .before .before .before .before .before .loop-test .taken)) (left (c .before .before .before .before .before .before .before .before .loop .inv) (c .before .before .before .before .before .before .before .loop-test .taken)) in search needs
 
 climb-requires : tie.Need-climb-requires Inv-loop μ-loop
-climb-requires c κs = (here-length (walking (c .before .before .before .before .before .before .before .before .loop .inv) (c .before .before .before .before .before .before .before .loop-test .taken)) (left (c .before .before .before .before .before .before .before .before .loop .inv) (c .before .before .before .before .before .before .before .loop-test .taken)), c .before .before .before .code-of .ensures)
+climb-requires c κs = (here-length (walking (c .before .before .before .before .before .before .before .before .before .loop .inv) (c .before .before .before .before .before .before .before .before .loop-test .taken)) (left (c .before .before .before .before .before .before .before .before .before .loop .inv) (c .before .before .before .before .before .before .before .before .loop-test .taken)), (code-read _ _ _ (c .before .before .before .before .code-bytes .ensures) (c .before .before .before .code-of .ensures)))
 
 add-records : tie.Need-add-records Inv-loop μ-loop
-add-records c = let k = records-few (walking (c .before .before .before .before .before .before .before .before .before .loop .inv) (c .before .before .before .before .before .before .before .before .loop-test .taken)) (left (c .before .before .before .before .before .before .before .before .before .loop .inv) (c .before .before .before .before .before .before .before .before .loop-test .taken)) in search needs
+add-records c = let k = records-few (walking (c .before .before .before .before .before .before .before .before .before .before .loop .inv) (c .before .before .before .before .before .before .before .before .before .loop-test .taken)) (left (c .before .before .before .before .before .before .before .before .before .before .loop .inv) (c .before .before .before .before .before .before .before .before .before .loop-test .taken)) in search needs
 
 stop-after-requires : tie.Need-stop-after-requires Inv-loop μ-loop
 stop-after-requires c κs = search needs
 
 loop-less : tie.Need-loop-less Inv-loop μ-loop
-loop-less c = passing-less (c .before .before .before .before .before .before .before .before .before .before .loop .inv) (c .before .before .before .before .before .before .before .before .before .loop-test .taken) _ (c .stop-after .ensures)
+loop-less c = passing-less (c .before .before .before .before .before .before .before .before .before .before .before .loop .inv) (c .before .before .before .before .before .before .before .before .before .before .loop-test .taken) _ (c .stop-after .ensures)
 
 loop-again : tie.Need-loop-again Inv-loop μ-loop
 loop-again c =
-    passing-next (c .before .before .before .before .before .before .before .before .before .before .loop .inv) (c .before .before .before .before .before .before .before .before .before .loop-test .taken) _ (c .stop-after .ensures) (c .before .before .before .before .before .before .before .is-at .ensures) (c .before .before .before .before .before .code-of .ensures) (c .before .before .before .step .ensures)
+    passing-next (c .before .before .before .before .before .before .before .before .before .before .before .loop .inv) (c .before .before .before .before .before .before .before .before .before .before .loop-test .taken) _ (c .stop-after .ensures) (c .before .before .before .before .before .before .before .before .is-at .ensures) (code-read _ _ _ (c .before .before .before .before .before .before .code-bytes .ensures) (c .before .before .before .before .before .code-of .ensures)) (c .before .before .before .step .ensures)
     (c .before .climb .ensures)
 
 returns : tie.Need-returns Inv-loop μ-loop
@@ -106,9 +110,10 @@ walk-batch-spec =
     add-end
     add-number
     is-at-requires
-    sub-code-of
-    part-code-of-start
-    part-code-of-end
+    sub-code-bytes
+    part-code-bytes-start
+    part-code-bytes-end
+    code-bytes-requires
     code-of-requires
     sub-step
     part-step-start

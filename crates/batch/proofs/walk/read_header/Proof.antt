@@ -1,7 +1,11 @@
+use Rattle.record.proofs.CodeList.{code-read}
 use Rattle.batch.proofs.Laws.{head-read}
 use borrow.Author.Needs.{needs}
 use Rattle.batch.proofs.walk.read_header.Statement.{statement}
 use Rattle.batch.proofs.walk.read_header.Tie as tie
+
+code-bytes-requires : tie.Need-code-bytes-requires
+code-bytes-requires c κs = search needs
 
 code-of-requires : tie.Need-code-of-requires
 code-of-requires c κs = search needs
@@ -23,7 +27,7 @@ field-amount-requires c κs = search needs
 
 returns : tie.Need-returns
 returns c =
-    head-read _ _ _ _ _ _ _ _ _ _ (c .before .before .before .before .before .code-of .ensures)
+    head-read _ _ _ _ _ _ _ _ _ _ (code-read _ _ _ (c .before .before .before .before .before .before .code-bytes .ensures) (c .before .before .before .before .before .code-of .ensures))
     (c .before .before .before .before .letter-in .ensures) (c .before .before .before .location .ensures)
     (c .before .before .symbol-of .ensures) (c .before .first-serial .ensures) (c .field-amount .ensures)
 
@@ -31,6 +35,7 @@ pub read-header-spec : {M : Type 1} → statement M
 read-header-spec =
     tie.close
     (tie.spec
+    code-bytes-requires
     code-of-requires
     letter-in-requires
     location-requires

@@ -1,3 +1,4 @@
+use Rattle.record.proofs.CodeList.{code-read}
 use Rattle.repeats.proofs.Places.{of-payments, of-batches}
 use borrow.Author.Needs.{needs}
 use Rattle.repeats.proofs.walk.is_of.Statement.{statement}
@@ -12,14 +13,17 @@ add-end c = search needs
 add-number : tie.Need-add-number
 add-number c = search needs
 
-sub-code-of : tie.Need-sub-code-of
-sub-code-of c = search needs
+sub-code-bytes : tie.Need-sub-code-bytes
+sub-code-bytes c = search needs
 
-part-code-of-start : tie.Need-part-code-of-start
-part-code-of-start c = search needs
+part-code-bytes-start : tie.Need-part-code-bytes-start
+part-code-bytes-start c = search needs
 
-part-code-of-end : tie.Need-part-code-of-end
-part-code-of-end c = search needs
+part-code-bytes-end : tie.Need-part-code-bytes-end
+part-code-bytes-end c = search needs
+
+code-bytes-requires : tie.Need-code-bytes-requires
+code-bytes-requires c κs = search needs
 
 code-of-requires : tie.Need-code-of-requires
 code-of-requires c κs = search needs
@@ -37,10 +41,10 @@ is-header-requires : tie.Need-is-header-requires
 is-header-requires c κs = search needs
 
 returns : tie.Need-returns
-returns c = search (needs, of-payments)
+returns c = search (needs, of-payments, code-read)
 
 returns-2 : tie.Need-returns-2
-returns-2 c = search (needs, of-batches)
+returns-2 c = search (needs, of-batches, code-read)
 
 pub is-of-spec : {M : Type 1} → statement M
 is-of-spec =
@@ -49,9 +53,10 @@ is-of-spec =
     mul-at
     add-end
     add-number
-    sub-code-of
-    part-code-of-start
-    part-code-of-end
+    sub-code-bytes
+    part-code-bytes-start
+    part-code-bytes-end
+    code-bytes-requires
     code-of-requires
     enum-told
     is-detail-requires
