@@ -14,16 +14,6 @@ use Rattle.record.specs.Place.{Within, value, plain, sent}
 use Rattle.record.proofs.Every.{value-length}
 use Rattle.record.proofs.Sent.{within-plain, plain-sent, value-sent}
 
-pub copy-more : (xs ys : List ℕ) (i n y : ℕ) → length xs ≡ n → length ys ≡ n → i < n → y ≡ getD ys i 0 → take i xs ≡ take i ys
-    → take (i + 1) (set xs i y) ≡ take (i + 1) ys
-copy-more xs ys i n y k l h g e =
-    let a : i < length xs = omega arith in
-    let b : i < length ys = omega arith in
-    rw (add-one, take-suc-set, take-suc ys i 0, g, e)
-
-pub copy-whole : (xs ys : List ℕ) (i n : ℕ) → length xs ≡ n → length ys ≡ n → n ≤ i → take i xs ≡ take i ys → xs ≡ ys
-copy-whole xs ys i n k l h e = sym (take-all i xs (omega arith)) ∙ e ∙ take-all i ys (omega arith)
-
 -- the first i bytes are copied
 unfoldable pub Copied : List ℕ → List ℕ → ℕ → Type 0
 Copied copy bytes i = take i copy ≡ take i bytes
@@ -33,13 +23,19 @@ unfolding Copied
 copied-none copy bytes = refl
 
 module _ (rec : List ℕ) (p : Place) (w : Within rec p) (copy : List ℕ) (n : length copy ≡ p .width) (i : ℕ) (l : Copied copy (sent rec p) i) where
+  sent-length : length (sent rec p) ≡ p .width
+  sent-length = value-length rec (plain p) (within-plain rec p w)
+
   pub copied-next : (y : ℕ) → i < p .width → y ≡ getD (sent rec p) i 0 → Copied (set copy i y) (sent rec p) (i + 1)
   unfolding Copied
-  copied-next y k e = copy-more copy (sent rec p) i (p .width) y n (value-length rec (plain p) (within-plain rec p w)) k e l
+  copied-next y h e =
+      let a : i < length copy = omega arith in
+      let b : i < length (sent rec p) = omega (arith, sent-length) in
+      rw (add-one, take-suc-set, take-suc (sent rec p) i 0, e, l)
 
   pub copied-all : p .width ≤ i → copy ≡ sent rec p
   unfolding Copied
-  copied-all k = copy-whole copy (sent rec p) i (p .width) n (value-length rec (plain p) (within-plain rec p w)) k l
+  copied-all h = sym (take-all i copy (omega arith)) ∙ l ∙ take-all i (sent rec p) (omega (arith, sent-length))
 
 -- the value: translated where the bytes are ASCII
 pub value-copied : (rec : List ℕ) (p : Place) (copy : List ℕ) → p .ascii ≡ false → copy ≡ sent rec p → copy ≡ value rec p
