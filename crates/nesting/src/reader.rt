@@ -106,9 +106,10 @@ fn is_own(rec: &[u8], line: Line, state: State) -> bool
     ensures { λ r. ⌜ r ≡ owns state (held (seen line (now (rec .entry))) paymentId) ⌝ }
 {
     let id = state.id;
+    let own = payment_id(rec, line);
     let mut at: usize = 0;
     while at < 20 {
-        if record::part_byte(rec, line, PAYMENT_ID, at) != id[at] {
+        if own[at] != id[at] {
             return false;
         }
         at += 1;
@@ -265,11 +266,7 @@ fn payment_id(rec: &[u8], line: Line) -> [u8; 20]
     ensures { λ r. ⌜ r ≡ held (seen line (now (rec .entry))) paymentId ⌝ }
 {
     let mut id = [0u8; 20];
-    let mut i: usize = 0;
-    while i < 20 {
-        id[i] = record::part_byte(rec, line, PAYMENT_ID, i);
-        i += 1;
-    }
+    record::copy_field(rec, line, PAYMENT_ID, &mut id);
     id
 }
 

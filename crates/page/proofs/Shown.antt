@@ -2,12 +2,13 @@
 -- Assumes nothing.
 use mathlib.Core.Path.{_≡_, refl, ap, sym, _∙_}
 use mathlib.Core.Bool.{Bool, true, false, true≢false}
-use mathlib.Core.List.{List, [], _∷_, map}
-use Prim.Native.Nat.{ℕ, zero, suc, _/_, _≤_, _<_}
+use mathlib.Core.List.{List, [], _∷_, _++_, map, append-nil, append-assoc}
+use Prim.Native.Nat.{ℕ, zero, suc, _+_, _/_, _≤_, _<_}
 use native.Mathlib.Nat.{le-of-suc-le-suc, not-suc-le-zero}
 use native.Mathlib.Omega.{arith}
 use lib.Dec.{eqb}
-use lib.ListN.{length, take, drop, getD}
+use lib.ListN.{length, take, drop, getD, set, length-append, length-take, length-drop, drop-of-length-le}
+use lib.Seq.{drop-cons, take-suc, take-all}
 use borrow.Author.Tests.{eq-eqb, ne-eqb, eqb-true}
 use Rattle.page.specs.CodePage.{codePage, ebcdic, shown, isAscii, translated}
 use Rattle.page.proofs.CodePage.{both-left, ebcdic-byte}
@@ -70,6 +71,58 @@ shown-bytes false xs h i = h i
 shown-bytes true [] h i = h i
 shown-bytes true (x ∷ xs) h zero = ebcdic-byte x
 shown-bytes true (x ∷ xs) h (suc i) = shown-bytes true xs (λ j. h (suc j)) i
+
+-- a byte among others: what it is, and another in its place
+at-seam : (xs ys : List ℕ) (y : ℕ) → getD (xs ++ y ∷ ys) (length xs) 0 ≡ y
+at-seam [] ys y = refl
+at-seam (x ∷ xs) ys y = at-seam xs ys y
+
+set-seam : (xs ys : List ℕ) (y z : ℕ) → set (xs ++ y ∷ ys) (length xs) z ≡ xs ++ z ∷ ys
+set-seam [] ys y z = refl
+set-seam (x ∷ xs) ys y z = ap (_∷_ x) (set-seam xs ys y z)
+
+-- the first bytes are translated
+pub record Replaced (before bytes : List ℕ) (i : ℕ) : Type 0 where
+  pub within : i ≤ length before
+  pub done : bytes ≡ shown true (take i before) ++ drop i before
+
+pub replaced-none : (bytes : List ℕ) → Replaced bytes bytes 0
+unfolding shown
+replaced-none bytes = record { within = omega arith; done = refl }
+
+module _ (before bytes : List ℕ) (i : ℕ) (c : Replaced before bytes i) where
+  front : List ℕ
+  front = shown true (take i before)
+
+  front-length : length front ≡ i
+  unfolding front
+  front-length = simp (shown-length, length-take) (omega (arith, c .within))
+
+  pub replaced-length : length bytes ≡ length before
+  unfolding front
+  replaced-length = rw (c .done) (simp (length-append, length-drop) (omega (arith, front-length, c .within)))
+
+  pub replaced-next : (y : ℕ) → i < length bytes → y ≡ ebcdic (getD bytes i 0) → Replaced before (set bytes i y) (i + 1)
+  unfolding front
+  replaced-next y h t =
+      let l : i < length before = omega (arith, replaced-length) in
+      let rest = drop (suc i) before in
+      let d : bytes ≡ front ++ getD before i 0 ∷ rest = c .done ∙ ap (λ (xs : List ℕ). front ++ xs) (drop-cons before i 0 l) in
+      let b : getD bytes i 0 ≡ getD before i 0 = ap (λ (xs : List ℕ). getD xs i 0) d ∙ ap (λ (n : ℕ). getD (front ++ getD before i 0 ∷ rest) n 0) (sym front-length) ∙ at-seam front rest (getD before i 0) in
+      let e : set bytes i y ≡ front ++ y ∷ rest =
+      ap (λ (xs : List ℕ). set xs i y) d ∙ ap (λ (n : ℕ). set (front ++ getD before i 0 ∷ rest) n y) (sym front-length) ∙ set-seam front rest (getD before i 0) y in
+      let s : shown true (take (suc i) before) ≡ front ++ y ∷ [] =
+      shown-take true (suc i) before ∙ take-suc (shown true before) i 0 (omega (arith, shown-length true before, l)) ∙ rw (shown-at true before i l, t, b, shown-take true i before) in
+      let n : i + 1 ≡ suc i = omega arith in
+      record {
+        within = omega arith;
+        done = e ∙ rw (n, s) (sym (append-assoc front (y ∷ []) rest));
+      }
+
+  pub replaced-all : length bytes ≤ i → bytes ≡ shown true before
+  replaced-all h =
+      let e : i ≡ length before = omega (arith, replaced-length, c .within) in
+      c .done ∙ rw (e, take-all (length before) before (omega arith), drop-of-length-le before {i = length before} (omega arith)) (append-nil (shown true before))
 
 -- the first two bytes tell
 pub short-file : (xs : List ℕ) → length xs < 2 → false ≡ isAscii xs

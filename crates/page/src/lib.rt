@@ -1,6 +1,7 @@
 // ASCII files (02 W2): which they are, and what their bytes become.
 ghost use mathlib.Core.Path.{_≡_};
-ghost use Rattle.page.specs.CodePage.{ebcdic, isAscii};
+ghost use mathlib.Core.Bool.{true};
+ghost use Rattle.page.specs.CodePage.{ebcdic, shown, isAscii};
 
 // The bytes of the printable characters, hex 20 to 7E, in code page 037.
 const CODE_PAGE: [u8; 95] = [
@@ -129,6 +130,18 @@ pub fn translate(byte: u8) -> u8
         return byte + 0xC0;
     }
     look_up(byte)
+}
+
+// Translates each of these bytes, where they stand.
+pub fn translate_all(bytes: &mut [u8])
+    ensures { λ r. ⌜ now (bytes .exit) ≡ shown true (now (bytes .entry)) ⌝ }
+{
+    let mut i: usize = 0;
+    while i < bytes.len() {
+        let byte = bytes[i];
+        bytes[i] = translate(byte);
+        i += 1;
+    }
 }
 
 // The file is ASCII: its first two bytes are FH in ASCII.

@@ -2,10 +2,10 @@ pub mod Chain
 pub mod Held
 pub mod Every
 pub mod Same
-pub mod Copies
 pub mod Numbers
 pub mod Orders
 mod Sent
+mod Copies
 pub mod Bracket
 pub mod Table
 pub mod CodeList

@@ -27,7 +27,7 @@ use Rattle.record.proofs.Numbers.{digit-at}
 use Rattle.record.proofs.Orders.{order-equal, before-not, after-not}
 use Rattle.record.proofs.Same.{alike-equal, alike-self}
 
-value-sent : (rec : List ℕ) (p : Place) → value rec p ≡ shown (p .ascii) (sent rec p)
+pub value-sent : (rec : List ℕ) (p : Place) → value rec p ≡ shown (p .ascii) (sent rec p)
 unfolding value shown
 value-sent rec p = refl
 
@@ -36,7 +36,7 @@ pub within-plain : (rec : List ℕ) (p : Place) → Within rec p → Within rec 
 unfolding Within
 within-plain rec p w = w
 
-plain-sent : (rec : List ℕ) (p : Place) → p .ascii ≡ false → value rec p ≡ sent rec p
+pub plain-sent : (rec : List ℕ) (p : Place) → p .ascii ≡ false → value rec p ≡ sent rec p
 unfolding shown
 plain-sent rec p e = value-sent rec p ∙ rw e
 

@@ -1,6 +1,7 @@
 -- Each public function's contract allows one result for the same arguments: stated over the contract itself.
 -- Assumes nothing.
 use mathlib.Core.Path.{_≡_, sym, _∙_}
+use denote.Ref.{now}
 use Rattle.record.proofs.field_blank.Reads as field-blank
 use Rattle.record.proofs.field_zeros.Reads as field-zeros
 use Rattle.record.proofs.field_valid.Reads as field-valid
@@ -8,6 +9,7 @@ use Rattle.record.proofs.field_is.Reads as field-is
 use Rattle.record.proofs.field_digits.Reads as field-digits
 use Rattle.record.proofs.field_number.Reads as field-number
 use Rattle.record.proofs.part_byte.Reads as part-byte
+use Rattle.record.proofs.copy_field.Reads as copy-field
 use Rattle.record.proofs.part_digits.Reads as part-digits
 use Rattle.record.proofs.part_number.Reads as part-number
 use Rattle.record.proofs.fields_same.Reads as fields-same
@@ -44,6 +46,10 @@ field-number-unique κs a r s x y p q = p ∙ sym q
 
 pub part-byte-unique : OneResult part-byte.Post
 part-byte-unique κs a r s x y p q = p ∙ sym q
+
+-- behind three arguments, `.0` is the copy
+pub copy-field-unique : (κs : _) (a : _) (r s : _) (x y : _) → copy-field.Post κs a r x → copy-field.Post κs a s y → now (x .1 .1 .1 .0) ≡ now (y .1 .1 .1 .0)
+copy-field-unique κs a r s x y p q = p ∙ sym q
 
 pub part-digits-unique : OneResult part-digits.Post
 part-digits-unique κs a r s x y p q = p ∙ sym q

@@ -7,7 +7,7 @@ pub mod routing;
 ghost use mathlib.Core.Path.{_≡_};
 ghost use mathlib.Core.Bool.{true};
 ghost use Prim.Native.Nat.{_-_, _<_, _≤_};
-ghost use lib.ListN.{getD};
+ghost use lib.ListN.{length, getD};
 ghost use lib.Seq.{slice};
 ghost use Rattle.page.specs.CodePage.{twins};
 ghost use Rattle.record.specs.Value.{Has, seen, held};
@@ -97,6 +97,15 @@ pub fn part_byte(rec: &[u8], line: Line, field: Field, i: usize) -> u8
 {
     let place = place::locate(rec, line, field);
     place::byte(rec, place, i)
+}
+
+// Copies what the field holds.
+pub fn copy_field(rec: &[u8], line: Line, field: Field, to: &mut [u8])
+    requires { ⌜ Has (now rec) field × (length (now to) ≡ field .width) ⌝ }
+    ensures { λ r. ⌜ now (to .exit) ≡ held (seen line (now (rec .entry))) field ⌝ }
+{
+    let place = place::locate(rec, line, field);
+    place::copy(rec, place, to);
 }
 
 // The field's bytes from `from` up to `to`, counted from 0, are digits.

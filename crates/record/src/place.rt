@@ -3,12 +3,13 @@ use crate::Field;
 use crate::Line;
 use crate::Order;
 use page::translate;
+use page::translate_all;
 ghost use mathlib.Core.Path.{_≡_};
 ghost use mathlib.Core.Bool.{true};
 ghost use mathlib.Core.List.{[], _∷_};
 ghost use lib.Dec.{leb};
 ghost use Prim.Native.Nat.{_-_, _<_, _≤_, min};
-ghost use lib.ListN.{getD};
+ghost use lib.ListN.{length, getD};
 ghost use lib.Seq.{slice};
 ghost use Rattle.record.specs.Value.{Has};
 ghost use Rattle.page.specs.CodePage.{twins};
@@ -58,6 +59,30 @@ fn sent_byte(rec: &[u8], place: Place, i: usize) -> u8
 {
     let at = place.start + i;
     rec[at]
+}
+
+// Copies the bytes at the place, as they were sent.
+fn copy_sent(rec: &[u8], place: Place, to: &mut [u8])
+    requires { ⌜ Within (now rec) place × (length (now to) ≡ place .width) ⌝ }
+    ensures { λ r. ⌜ now (to .exit) ≡ sent (now (rec .entry)) place ⌝ }
+{
+    let n = place.width;
+    let mut i = 0;
+    while i < n {
+        to[i] = sent_byte(rec, place, i);
+        i += 1;
+    }
+}
+
+// Copies the value.
+pub(crate) fn copy(rec: &[u8], place: Place, to: &mut [u8])
+    requires { ⌜ Within (now rec) place × (length (now to) ≡ place .width) ⌝ }
+    ensures { λ r. ⌜ now (to .exit) ≡ value (now (rec .entry)) place ⌝ }
+{
+    copy_sent(rec, place, to);
+    if place.ascii {
+        translate_all(to);
+    }
 }
 
 // What a byte of the value that is seen as `b` was sent as: in ASCII as `ascii`.

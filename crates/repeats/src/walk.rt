@@ -135,11 +135,7 @@ pub(crate) fn schedule_number(file: &[u8], first: Line, place: usize) -> [u8; 14
     let ascii = first.ascii;
     let line = Line { number, ascii };
     let mut copy = [0u8; 14];
-    let mut i: usize = 0;
-    while i < 14 {
-        copy[i] = record::part_byte(rec, line, SCHEDULE_NUMBER, i);
-        i += 1;
-    }
+    record::copy_field(rec, line, SCHEDULE_NUMBER, &mut copy);
     copy
 }
 
@@ -149,11 +145,7 @@ pub(crate) fn id_of(rec: &[u8], line: Line) -> [u8; 20]
     ensures { λ r. ⌜ r ≡ held (seen line (now (rec .entry))) (numbering Payments) ⌝ }
 {
     let mut copy = [0u8; 20];
-    let mut i: usize = 0;
-    while i < 20 {
-        copy[i] = record::part_byte(rec, line, PAYMENT_ID, i);
-        i += 1;
-    }
+    record::copy_field(rec, line, PAYMENT_ID, &mut copy);
     copy
 }
 

@@ -39,10 +39,6 @@ pub fn symbol_of(rec: &[u8], line: Line) -> [u8; 4]
     ensures { λ r. ⌜ r ≡ held (seen line (now (rec .entry))) checkSymbolNumber ⌝ }
 {
     let mut symbol = [0u8; 4];
-    let mut i: usize = 0;
-    while i < 4 {
-        symbol[i] = record::part_byte(rec, line, CHECK_SYMBOL_NUMBER, i);
-        i += 1;
-    }
+    record::copy_field(rec, line, CHECK_SYMBOL_NUMBER, &mut symbol);
     symbol
 }
