@@ -14,6 +14,7 @@ use Rattle.record.proofs.part_digits.Reads as part-digits
 use Rattle.record.proofs.part_number.Reads as part-number
 use Rattle.record.proofs.fields_same.Reads as fields-same
 use Rattle.record.proofs.fields_order.Reads as fields-order
+use Rattle.record.proofs.field_part.Reads as field-part
 use Rattle.record.proofs.codes.code_bytes.Reads as code-bytes
 use Rattle.record.proofs.codes.code_of.Reads as code-of
 use Rattle.record.proofs.codes.is_detail.Reads as is-detail
@@ -48,6 +49,9 @@ pub part-byte-unique : OneResult part-byte.Post
 part-byte-unique κs a r s x y p q = p ∙ sym q
 
 -- behind three arguments, `.0` is the copy
+pub field-part-unique : (κs : _) (a : _) (r s : _) (x y : _) → field-part.Post κs a r x → field-part.Post κs a s y → now r ≡ now s
+field-part-unique κs a r s x y p q = p ∙ sym q
+
 pub copy-field-unique : (κs : _) (a : _) (r s : _) (x y : _) → copy-field.Post κs a r x → copy-field.Post κs a s y → now (x .1 .1 .1 .0) ≡ now (y .1 .1 .1 .0)
 copy-field-unique κs a r s x y p q = p ∙ sym q
 

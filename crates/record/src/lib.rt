@@ -6,10 +6,12 @@ pub mod routing;
 
 ghost use mathlib.Core.Path.{_≡_};
 ghost use mathlib.Core.Bool.{true};
+ghost use mathlib.Core.List.{[]};
 ghost use Prim.Native.Nat.{_-_, _<_, _≤_};
 ghost use lib.ListN.{length, getD};
 ghost use lib.Seq.{slice};
 ghost use Rattle.page.specs.CodePage.{twins};
+ghost use Rattle.record.specs.Choice.{choose};
 ghost use Rattle.record.specs.Value.{Has, seen, held};
 ghost use Rattle.record.specs.Tests.{blank, zeros, digits, valid, alike};
 ghost use Rattle.record.specs.Numeral.{numeral};
@@ -97,6 +99,19 @@ pub fn part_byte(rec: &[u8], line: Line, field: Field, i: usize) -> u8
 {
     let place = place::locate(rec, line, field);
     place::byte(rec, place, i)
+}
+
+// The part of the record that is what the field holds, or an empty part where the record has to be translated.
+pub fn field_part<'a>(rec: &'a [u8], line: Line, field: Field) -> &'a [u8]
+    requires { ⌜ Has (now rec) field ⌝ }
+    ensures { λ r. ⌜ now r ≡ choose (line .ascii) [] (held (seen line (now (rec .entry))) field) ⌝ }
+{
+    if line.ascii {
+        return &rec[0..0];
+    }
+    let start = field.start - 1;
+    let end = start + field.width;
+    &rec[start..end]
 }
 
 // Copies what the field holds.

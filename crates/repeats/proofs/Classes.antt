@@ -43,10 +43,10 @@ module _ (classes class : ℕ) (sieve : List ℕ) (r : Record) where
   pub sort-after : isOf Payments r ≡ false → sieve ≡ sifted classes class sieve r
   sort-after o = other-after (other-sort o)
 
-  module _ (id : List ℕ) (hash : ℕ) (o : isOf Payments r ≡ true) (e : id ≡ idOf r) (h : hash ≡ hashOf id) where
+  module _ (hash : ℕ) (o : isOf Payments r ≡ true) (h : hash ≡ hashOf (idOf r)) where
     by-class : eqb (hash / 562949953421312 % classes) class ≡ inClass classes class r
     unfolding inClass classOf _and_
-    by-class = sym (rw (o, h, e))
+    by-class = sym (rw (o, h))
 
     module _ (n : hash / 562949953421312 % classes ≡ class → ⊥) where
       pub class-answer : false ≡ isSuspect classes class sieve r
@@ -61,11 +61,11 @@ module _ (classes class : ℕ) (sieve : List ℕ) (r : Record) where
 
       pub own-answer : (b : Bool) → b ≡ hasMarks sieve hash → b ≡ isSuspect classes class sieve r
       unfolding isSuspect _and_
-      own-answer b m = rw (in-class, ← e, ← h) m
+      own-answer b m = rw (in-class, ← h) m
 
       pub own-after : (after : List ℕ) → after ≡ withMarks sieve hash → after ≡ sifted classes class sieve r
       unfolding sifted choose
-      own-after after m = rw (in-class, ← e, ← h) m
+      own-after after m = rw (in-class, ← h) m
 
 -- one record more, and what a missing mark says
 module _ (classes class : ℕ) where

@@ -1,10 +1,19 @@
--- The hash of an ID: no step wraps, and one word more.
+-- The hash of an ID: no step wraps, and one word more; and that of a record's.
 -- Assumes nothing.
-use mathlib.Core.Path.{_≡_, refl, _∙_}
-use mathlib.Core.List.{List}
+use mathlib.Core.Path.{_≡_, refl, ap, _∙_}
+use mathlib.Core.Bool.{Bool, true, false}
+use mathlib.Core.List.{List, []}
 use Prim.Native.Nat.{ℕ, _+_, _-_, _*_, _/_, _%_, _≤_, _<_}
 use native.Mathlib.Numerals.{add-one}
 use native.Mathlib.Omega.{arith}
+use lib.ListN.{length}
+use Rattle.record.specs.declared.Field.{Field}
+use Rattle.record.specs.Choice.{choose}
+use Rattle.page.specs.CodePage.{shown}
+use Rattle.record.specs.Value.{held}
+use Rattle.nesting.specs.Division.{Record}
+use Rattle.nesting.specs.Records.{recordAt}
+use Rattle.nesting.proofs.Cuts.{recordFrom, from-place}
 use Rattle.repeats.specs.Sieve.{wordOf, mixed, hashTo, hashOf}
 
 -- the room of a step, in laws of one or two numbers each: together they pass the digits that omega takes
@@ -43,3 +52,17 @@ unfolding hashOf
 hash-end id k h g r l m a b e =
     let q : k ≡ 5 = omega arith in
     e ∙ rw (b, a, q)
+
+-- a part of a record that is as long as the ID is the ID, and not the empty one
+pub part-hash : (ascii : Bool) (id part : List ℕ) (h : ℕ) → part ≡ choose ascii [] id → length part ≡ 20 → h ≡ hashOf part → h ≡ hashOf id
+unfolding choose
+part-hash true id part h e n q = absurd (omega (arith, n, ap length e))
+part-hash false id part h e n q = q ∙ ap hashOf e
+
+pub copy-hash : (id copy : List ℕ) (h : ℕ) → copy ≡ id → h ≡ hashOf copy → h ≡ hashOf id
+copy-hash id copy h e q = q ∙ ap hashOf e
+
+-- the hash of the ID of the record at a place
+pub hash-there : (ascii : Bool) (first place : ℕ) (xs : List ℕ) (f : Field) (h : ℕ) → h ≡ hashOf (held (recordFrom ascii xs (place * 850)) f)
+    → h ≡ hashOf (held (recordAt first place (shown ascii xs)) f)
+hash-there ascii first place xs f h e = e ∙ ap (λ (r : Record). hashOf (held r f)) (from-place ascii first place xs)

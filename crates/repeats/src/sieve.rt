@@ -4,20 +4,21 @@
 use crate::Repeat;
 use crate::Sort;
 use crate::blocks::first_by_blocks;
+use crate::walk::id_of;
 use crate::walk::is_of;
 use crate::walk::is_repeated;
-use crate::walk::payment_id;
 use numbers::wide;
 use record::Line;
+use record::layout::PAYMENT_ID;
 ghost use mathlib.Core.Path.{_≡_};
 ghost use mathlib.Core.List.{[]};
 ghost use Prim.Native.Nat.{_+_, _*_, _/_, _<_, _≤_};
 ghost use lib.ListN.{length};
-ghost use Rattle.record.specs.Value.{seen};
+ghost use Rattle.record.specs.Value.{seen, held};
 ghost use Rattle.nesting.specs.Records.{cut, recordAt};
 ghost use Rattle.tables.specs.Tables.{Stands};
 ghost use Rattle.repeats.specs.declared.Sort.the-variants.{Payments};
-ghost use Rattle.repeats.specs.Repeats.{firstRepeat};
+ghost use Rattle.repeats.specs.Repeats.{numbering, firstRepeat};
 ghost use Rattle.repeats.specs.Sieve.{wordOf, mixed, hashOf, marked, isMarked, hasMarks, withMarks, isSuspect, sifted, AllMarked, mostWalks, Tried, Passed};
 
 // The suspects of a batch that are walked: past them, blocks decide.
@@ -39,9 +40,9 @@ struct Passing {
 }
 
 // Four bytes of an ID as one number.
-fn word(id: [u8; 20], i: usize) -> u64
-    requires { ⌜ i + 4 ≤ 20 ⌝ }
-    ensures { λ r. ⌜ (r ≡ wordOf id i) × (r < 4294967296) ⌝ }
+fn word(id: &[u8], i: usize) -> u64
+    requires { ⌜ i + 4 ≤ length (now id) ⌝ }
+    ensures { λ r. ⌜ (r ≡ wordOf (now (id .entry)) i) × (r < 4294967296) ⌝ }
 {
     wide(id[i]) + wide(id[i + 1]) * 256 + wide(id[i + 2]) * 65536 + wide(id[i + 3]) * 16777216
 }
@@ -55,8 +56,9 @@ fn mix(hash: u64, word: u64) -> u64
 }
 
 // The hash of an ID. No promise rests on it; only the time does.
-fn hash_of(id: [u8; 20]) -> u64
-    ensures { λ r. ⌜ r ≡ hashOf id ⌝ }
+fn hash_of(id: &[u8]) -> u64
+    requires { ⌜ length (now id) ≡ 20 ⌝ }
+    ensures { λ r. ⌜ r ≡ hashOf (now (id .entry)) ⌝ }
 {
     let mut hash: u64 = 0;
     let mut k: usize = 0;
@@ -67,6 +69,31 @@ fn hash_of(id: [u8; 20]) -> u64
     }
     let stirred = mix(hash, 0);
     mix(stirred, 0)
+}
+
+// The hash of a record's Payment ID, which is read where it stands if it can be.
+fn hash_in(rec: &[u8], line: Line) -> u64
+    requires { ⌜ length (now rec) ≡ 850 ⌝ }
+    ensures { λ r. ⌜ r ≡ hashOf (held (seen line (now (rec .entry))) (numbering Payments)) ⌝ }
+{
+    let id = record::field_part(rec, line, PAYMENT_ID);
+    if id.len() == 20 {
+        return hash_of(id);
+    }
+    let copy = id_of(rec, line);
+    hash_of(&copy)
+}
+
+// The same of the record at the place.
+fn hash_at(part: &[u8], first: Line, place: usize) -> u64
+    requires { ⌜ Stands (first .number) place (now part) ⌝ }
+    ensures { λ r. ⌜ r ≡ hashOf (held (recordAt (first .number) place (seen first (now (part .entry)))) (numbering Payments)) ⌝ }
+{
+    let at = place * 850;
+    let end = at + 850;
+    let number = first.number + place;
+    let ascii = first.ascii;
+    hash_in(&part[at..end], Line { number, ascii })
 }
 
 fn is_marked(sieve: &[u64; 1024], slot: usize) -> bool
@@ -132,7 +159,7 @@ fn sift(
     if !is_of(part, first, place, Sort::Payments) {
         return false;
     }
-    let hash = hash_of(payment_id(part, first, place));
+    let hash = hash_at(part, first, place);
     if hash / 562949953421312 % classes != class {
         return false;
     }

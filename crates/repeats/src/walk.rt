@@ -148,15 +148,3 @@ pub(crate) fn id_of(rec: &[u8], line: Line) -> [u8; 20]
     record::copy_field(rec, line, PAYMENT_ID, &mut copy);
     copy
 }
-
-// The Payment ID of the record at the place.
-pub(crate) fn payment_id(file: &[u8], first: Line, place: usize) -> [u8; 20]
-    requires { ⌜ Stands (first .number) place (now file) ⌝ }
-    ensures { λ r. ⌜ r ≡ held (recordAt (first .number) place (seen first (now (file .entry)))) (numbering Payments) ⌝ }
-{
-    let at = place * 850;
-    let end = at + 850;
-    let number = first.number + place;
-    let ascii = first.ascii;
-    id_of(&file[at..end], Line { number, ascii })
-}

@@ -10,11 +10,8 @@ is-of-requires c κs = search needs
 returns : tie.Need-returns
 returns c = search (needs, sort-answer, sort-after, reads)
 
-payment-id-requires : tie.Need-payment-id-requires
-payment-id-requires c κs = search needs
-
-hash-of-requires : tie.Need-hash-of-requires
-hash-of-requires c κs = search needs
+hash-at-requires : tie.Need-hash-at-requires
+hash-at-requires c κs = search needs
 
 rem-if2 : tie.Need-rem-if2
 rem-if2 c = search needs
@@ -37,8 +34,7 @@ sift-spec =
     (tie.spec
     is-of-requires
     returns
-    payment-id-requires
-    hash-of-requires
+    hash-at-requires
     rem-if2
     returns-2
     has-marks-requires

@@ -4,8 +4,8 @@ use borrow.Author.Needs.{needs}
 use Rattle.repeats.proofs.sieve.word.Statement.{statement}
 use Rattle.repeats.proofs.sieve.word.Tie as tie
 
-array-read-wide : tie.Need-array-read-wide
-array-read-wide c = search needs
+shared-slice-read-wide : tie.Need-shared-slice-read-wide
+shared-slice-read-wide c = search needs
 
 wide-requires : tie.Need-wide-requires
 wide-requires c κs = search needs
@@ -13,8 +13,8 @@ wide-requires c κs = search needs
 add-wide : tie.Need-add-wide
 add-wide c = search needs
 
-array-read-wide-2 : tie.Need-array-read-wide-2
-array-read-wide-2 c = search needs
+shared-slice-read-wide-2 : tie.Need-shared-slice-read-wide-2
+shared-slice-read-wide-2 c = search needs
 
 wide-requires-2 : tie.Need-wide-requires-2
 wide-requires-2 c κs = search needs
@@ -28,8 +28,8 @@ add-result c = search needs
 add-wide-2 : tie.Need-add-wide-2
 add-wide-2 c = search needs
 
-array-read-wide-3 : tie.Need-array-read-wide-3
-array-read-wide-3 c = search needs
+shared-slice-read-wide-3 : tie.Need-shared-slice-read-wide-3
+shared-slice-read-wide-3 c = search needs
 
 wide-requires-3 : tie.Need-wide-requires-3
 wide-requires-3 c κs = search needs
@@ -43,8 +43,8 @@ add-result-2 c = search needs
 add-wide-3 : tie.Need-add-wide-3
 add-wide-3 c = search needs
 
-array-read-wide-4 : tie.Need-array-read-wide-4
-array-read-wide-4 c = search needs
+shared-slice-read-wide-4 : tie.Need-shared-slice-read-wide-4
+shared-slice-read-wide-4 c = search needs
 
 wide-requires-4 : tie.Need-wide-requires-4
 wide-requires-4 c κs = search needs
@@ -63,20 +63,20 @@ pub word-spec : {M : Type 1} → statement M
 word-spec =
     tie.close
     (tie.spec
-    array-read-wide
+    shared-slice-read-wide
     wide-requires
     add-wide
-    array-read-wide-2
+    shared-slice-read-wide-2
     wide-requires-2
     mul-result
     add-result
     add-wide-2
-    array-read-wide-3
+    shared-slice-read-wide-3
     wide-requires-3
     mul-result-2
     add-result-2
     add-wide-3
-    array-read-wide-4
+    shared-slice-read-wide-4
     wide-requires-4
     mul-result-3
     add-result-3
