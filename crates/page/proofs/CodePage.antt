@@ -163,20 +163,27 @@ ebcdic-byte b = go (leb 0x20 b) refl (leb b 0x7E) refl
     go true e false f = rw (← high-byte b (leb-false b 0x7E f)) (omega arith)
     go false e t f = rw (← low-byte b (leb-false 0x20 b e)) (omega arith)
 
--- blanks and digits, as the code adds them up
+-- blanks, and characters in a row, as the code adds them up
 pub blank-lands : (b : ℕ) → b ≡ 0x20 → 0x40 ≡ ebcdic b
 unfolding landings
 blank-lands b e = sym (ap ebcdic e ∙ landing .1 .1 .1 .1 .1 .1 .1 .0 0 (omega arith))
+
+in-row : (sent lands count more : ℕ) → sent + more ≡ lands → ((k : ℕ) → k < count → ebcdic (sent + k) ≡ lands + k) → (b : ℕ) → sent ≤ b → b < sent + count → b + more ≡ ebcdic b
+in-row sent lands count more m row b h l =
+    let e : sent + (b - sent) ≡ b = omega arith in
+    let s : lands + (b - sent) ≡ b + more = omega arith in
+    sym (rw (e, s) at (row (b - sent) (omega arith)))
 
 zero-lands : (k : ℕ) → k < 10 → ebcdic (0x30 + k) ≡ 0xF0 + k
 unfolding landings
 zero-lands = landing .1 .1 .1 .1 .1 .1 .0
 
 pub digit-lands : (b : ℕ) → 0x30 ≤ b → b ≤ 0x39 → b + 0xC0 ≡ ebcdic b
-digit-lands b h l =
-    let e : 0x30 + (b - 0x30) ≡ b = omega arith in
-    let s : 0xF0 + (b - 0x30) ≡ b + 0xC0 = omega arith in
-    sym (rw (e, s) at (zero-lands (b - 0x30) (omega arith)))
+digit-lands b h l = in-row 0x30 0xF0 10 0xC0 refl zero-lands b h (omega arith)
+
+pub letter-lands : (b : ℕ) → 0x41 ≤ b → b ≤ 0x49 → b + 0x80 ≡ ebcdic b
+unfolding landings
+letter-lands b h l = in-row 0x41 0xC1 9 0x80 refl (landing .0) b h (omega arith)
 
 -- what becomes a digit is one
 pub digit-sent : (b : ℕ) → 0xF0 ≤ ebcdic b → ebcdic b ≤ 0xF9 → (0x30 ≤ b) × (ebcdic b ≡ b + 0xC0) × (b ≤ 0x39)

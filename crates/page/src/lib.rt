@@ -116,7 +116,7 @@ fn look_up(byte: u8) -> u8
     0x3F
 }
 
-// What a byte of an ASCII file becomes. Most are blanks and digits, which land in a row: for them the table is not built.
+// What a byte of an ASCII file becomes. Most are blanks, digits and, in record codes, A to I, which land in a row: for them the table is not built.
 pub fn translate(byte: u8) -> u8
     ensures { λ r. ⌜ r ≡ ebcdic byte ⌝ }
 {
@@ -128,6 +128,11 @@ pub fn translate(byte: u8) -> u8
     }
     if byte <= 0x39 {
         return byte + 0xC0;
+    }
+    if 0x41 <= byte {
+        if byte <= 0x49 {
+            return byte + 0x80;
+        }
     }
     look_up(byte)
 }
