@@ -35,6 +35,8 @@ def record(code="BN", schedule="A", date="2024-02-29", amount="0" * 20, routing=
     prefix = int(routing[:2]) if is_digits(routing) and len(routing) == 9 else -1
     says = [
         CODES.index(code) + 1 if code in CODES else 0,
+        code in ["DN", "DC", "DW", "DI", "DA"],
+        code in ["BN", "BC", "BW", "BI", "BA"],
         all(byte >= 0x40 for byte in data[0:56]),
         len(date) == 10 and date[4] + date[7] == "--" and is_digits(y + m + d) and real(y, m, d),
         len(created) == 8 and is_digits(created) and real(created[0:4], created[4:6], created[6:8]),
@@ -56,7 +58,7 @@ def in_ascii(vector):
 def page():
     """All 256 bytes at positions 3 to 258 of an ASCII record: printable ones become code page 037's, all others 3F."""
     seen = [ord(bytes([b]).decode("ascii").encode("cp037")) if 0x20 <= b <= 0x7E else 0x3F for b in range(256)]
-    return b"FH" + bytes(range(256)) + b" " * 592, "1 " + "0 " * 8 + "".join("%d " % byte for byte in seen) + "\n"
+    return b"FH" + bytes(range(256)) + b" " * 592, "1 " + "0 " * 10 + "".join("%d " % byte for byte in seen) + "\n"
 
 
 vectors = [record(code=c) for c in CODES + ["fh", "XX", "B ", "DB"]]

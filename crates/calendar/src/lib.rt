@@ -58,13 +58,13 @@ fn has_dashes(rec: &[u8], line: Line, field: Field) -> bool
     if !record::part_digits(rec, line, field, 0, 4) {
         return false;
     }
-    if record::part_byte(rec, line, field, 4) != 0x60 {
+    if !record::part_is(rec, line, field, 4, 0x60, 0x2D) {
         return false;
     }
     if !record::part_digits(rec, line, field, 5, 7) {
         return false;
     }
-    if record::part_byte(rec, line, field, 7) != 0x60 {
+    if !record::part_is(rec, line, field, 7, 0x60, 0x2D) {
         return false;
     }
     record::part_digits(rec, line, field, 8, 10)

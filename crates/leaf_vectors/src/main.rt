@@ -55,9 +55,11 @@ fn show_order(order: Order) {
     }
 }
 
-// The record's code, and whether no byte of positions 1 to 56 is below hex 40.
+// The record's code, whether it is a detail's and whether a batch header's, and whether no byte of positions 1 to 56 is below hex 40.
 fn show_bytes(rec: &[u8; 850], line: Line) {
     show(code_number(record::codes::code_of(record::codes::code_bytes(rec, line))));
+    show_bool(record::codes::has_detail(rec, line));
+    show_bool(record::codes::has_header(rec, line));
     show_bool(record::field_valid(
         rec,
         line,

@@ -104,6 +104,13 @@ page-byte b at e h k =
     let m : 0x20 + at ≡ b = omega arith in
     inside codePage at 0 0x3F (omega (arith, page-length)) ∙ sym (rw m at (behind at))
 
+-- the same of a table that is this one
+pub in-page : (table : List ℕ) (b at : ℕ) → table ≡ codePage → at ≡ b - 0x20 → b ≤ 0x7E → at < length table
+in-page table b at t e k = rw (t, page-length) (omega arith)
+
+pub of-page : (table : List ℕ) (b at : ℕ) → table ≡ codePage → at ≡ b - 0x20 → 0x20 ≤ b → b ≤ 0x7E → getD table at 0 ≡ ebcdic b
+of-page table b at t e h k = rw t (page-byte b at e h k)
+
 printable : (b : ℕ) → Printable b → ebcdic b ≡ entry (b - 0x20)
 unfolding entry
 printable b h = sym (page-byte b (b - 0x20) refl (h .0) (h .1))
@@ -164,10 +171,6 @@ ebcdic-byte b = go (leb 0x20 b) refl (leb b 0x7E) refl
     go false e t f = rw (← low-byte b (leb-false 0x20 b e)) (omega arith)
 
 -- blanks, and characters in a row, as the code adds them up
-pub blank-lands : (b : ℕ) → b ≡ 0x20 → 0x40 ≡ ebcdic b
-unfolding landings
-blank-lands b e = sym (ap ebcdic e ∙ landing .1 .1 .1 .1 .1 .1 .1 .0 0 (omega arith))
-
 in-row : (sent lands count more : ℕ) → sent + more ≡ lands → ((k : ℕ) → k < count → ebcdic (sent + k) ≡ lands + k) → (b : ℕ) → sent ≤ b → b < sent + count → b + more ≡ ebcdic b
 in-row sent lands count more m row b h l =
     let e : sent + (b - sent) ≡ b = omega arith in
@@ -180,10 +183,6 @@ zero-lands = landing .1 .1 .1 .1 .1 .1 .0
 
 pub digit-lands : (b : ℕ) → 0x30 ≤ b → b ≤ 0x39 → b + 0xC0 ≡ ebcdic b
 digit-lands b h l = in-row 0x30 0xF0 10 0xC0 refl zero-lands b h (omega arith)
-
-pub letter-lands : (b : ℕ) → 0x41 ≤ b → b ≤ 0x49 → b + 0x80 ≡ ebcdic b
-unfolding landings
-letter-lands b h l = in-row 0x41 0xC1 9 0x80 refl (landing .0) b h (omega arith)
 
 -- what becomes a digit is one
 pub digit-sent : (b : ℕ) → 0xF0 ≤ ebcdic b → ebcdic b ≤ 0xF9 → (0x30 ≤ b) × (ebcdic b ≡ b + 0xC0) × (b ≤ 0x39)

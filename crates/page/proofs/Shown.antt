@@ -77,7 +77,7 @@ at-seam : (xs ys : List ℕ) (y : ℕ) → getD (xs ++ y ∷ ys) (length xs) 0 �
 at-seam [] ys y = refl
 at-seam (x ∷ xs) ys y = at-seam xs ys y
 
-set-seam : (xs ys : List ℕ) (y z : ℕ) → set (xs ++ y ∷ ys) (length xs) z ≡ xs ++ z ∷ ys
+pub set-seam : (xs ys : List ℕ) (y z : ℕ) → set (xs ++ y ∷ ys) (length xs) z ≡ xs ++ z ∷ ys
 set-seam [] ys y z = refl
 set-seam (x ∷ xs) ys y z = ap (_∷_ x) (set-seam xs ys y z)
 

@@ -1,7 +1,7 @@
 // ASCII files (02 W2): which they are, and what their bytes become.
 ghost use mathlib.Core.Path.{_≡_};
 ghost use mathlib.Core.Bool.{true};
-ghost use Rattle.page.specs.CodePage.{ebcdic, shown, isAscii};
+ghost use Rattle.page.specs.CodePage.{codePage, ebcdic, shown, isAscii};
 
 // The bytes of the printable characters, hex 20 to 7E, in code page 037.
 const CODE_PAGE: [u8; 95] = [
@@ -103,7 +103,8 @@ const CODE_PAGE: [u8; 95] = [
 ];
 
 // What the table has for a byte, or 3F.
-fn look_up(byte: u8) -> u8
+fn entry_of(table: &[u8], byte: u8) -> u8
+    requires { ⌜ now table ≡ codePage ⌝ }
     ensures { λ r. ⌜ r ≡ ebcdic byte ⌝ }
 {
     if byte < 0x20 {
@@ -111,40 +112,33 @@ fn look_up(byte: u8) -> u8
     }
     if byte <= 0x7E {
         let at = (byte - 0x20) as usize;
-        return CODE_PAGE[at];
+        return table[at];
     }
     0x3F
 }
 
-// What a byte of an ASCII file becomes. Most are blanks, digits and, in record codes, A to I, which land in a row: for them the table is not built.
+// What a byte of an ASCII file becomes. Digits land in a row: for them the table is not built.
 pub fn translate(byte: u8) -> u8
     ensures { λ r. ⌜ r ≡ ebcdic byte ⌝ }
 {
-    if byte < 0x30 {
-        if byte == 0x20 {
-            return 0x40;
-        }
-        return look_up(byte);
-    }
-    if byte <= 0x39 {
-        return byte + 0xC0;
-    }
-    if 0x41 <= byte {
-        if byte <= 0x49 {
-            return byte + 0x80;
+    if 0x30 <= byte {
+        if byte <= 0x39 {
+            return byte + 0xC0;
         }
     }
-    look_up(byte)
+    let table = CODE_PAGE;
+    entry_of(&table, byte)
 }
 
-// Translates each of these bytes, where they stand.
+// Translates each of these bytes, where they stand, by a table that is built once for all of them.
 pub fn translate_all(bytes: &mut [u8])
     ensures { λ r. ⌜ now (bytes .exit) ≡ shown true (now (bytes .entry)) ⌝ }
 {
+    let table = CODE_PAGE;
     let mut i: usize = 0;
     while i < bytes.len() {
         let byte = bytes[i];
-        bytes[i] = translate(byte);
+        bytes[i] = entry_of(&table, byte);
         i += 1;
     }
 }

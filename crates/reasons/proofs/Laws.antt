@@ -187,3 +187,8 @@ module _ (xs ys : List ℕ) (n i : ℕ) (h : length xs ≡ 4) (k : length ys ≡
 pub composed-length : (xs ys : List ℕ) (n : ℕ) → length xs ≡ 4 → length ys ≡ 8 → length (symbolAndSerial xs ys n) ≡ n + 12
 unfolding symbolAndSerial
 composed-length xs ys n h k = simp (length-append, length-replicate) (omega arith)
+
+-- of copies of the field and of the serial number
+pub composed-held : (r : Bool) (own field symbol serial number : List ℕ) (width : ℕ) → own ≡ field → length field ≡ width → serial ≡ number
+    → r ≡ alike own (symbolAndSerial symbol serial (length own - 12)) → r ≡ alike field (symbolAndSerial symbol number (width - 12))
+composed-held r own field symbol serial number width e w n h = h ∙ rw (e, w, n)

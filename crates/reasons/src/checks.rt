@@ -7,7 +7,7 @@ use crate::UNLIKE;
 use record::Field;
 use record::Line;
 ghost use mathlib.Core.Path.{_≡_};
-ghost use lib.ListN.{getD};
+ghost use lib.ListN.{length, getD};
 ghost use Prim.Native.Nat.{_+_, _-_, _≤_, _<_};
 ghost use Rattle.record.specs.Value.{Has, seen, held};
 ghost use Rattle.record.specs.Tests.{alike};
@@ -66,41 +66,56 @@ pub fn unrepeated(rec: &[u8], line: Line, field: Field, repeats: bool) -> usize
 }
 
 // The byte that a symbol, a serial number and blanks have at an index.
-fn composed_byte(
-    rec: &[u8],
-    line: Line,
-    serial: Field,
-    symbol: [u8; 4],
-    blanks: usize,
-    i: usize,
-) -> u8
-    requires { ⌜ Has (now rec) serial × (serial .width ≡ 8) × (i < blanks + 12) ⌝ }
-    ensures { λ r. ⌜ r ≡ getD (symbolAndSerial symbol (held (seen line (now (rec .entry))) serial) blanks) i 0 ⌝ }
+fn composed_byte(symbol: [u8; 4], serial: [u8; 8], blanks: usize, i: usize) -> u8
+    requires { ⌜ i < blanks + 12 ⌝ }
+    ensures { λ r. ⌜ r ≡ getD (symbolAndSerial symbol serial blanks) i 0 ⌝ }
 {
     if i < 4 {
         return symbol[i];
     }
     if i < 12 {
-        return record::part_byte(rec, line, serial, i - 4);
+        return serial[i - 4];
     }
     0x40
 }
 
-fn is_composed(rec: &[u8], line: Line, field: Field, serial: Field, symbol: [u8; 4]) -> bool
-    requires { ⌜ Has (now rec) field × Has (now rec) serial × (serial .width ≡ 8) × (12 ≤ field .width) × (field .width ≤ 20) ⌝ }
-    ensures { λ r. ⌜ r ≡ alike (held (seen line (now (rec .entry))) field) (symbolAndSerial symbol (held (seen line (now (rec .entry))) serial) (field .width - 12)) ⌝ }
+// The bytes are the symbol, the serial number and blanks.
+fn is_composed(own: &[u8], symbol: [u8; 4], serial: [u8; 8]) -> bool
+    requires { ⌜ 12 ≤ length (now own) ⌝ }
+    ensures { λ r. ⌜ r ≡ alike (now (own .entry)) (symbolAndSerial symbol serial (length (now (own .entry)) - 12)) ⌝ }
 {
-    let width = field.width;
-    let blanks = width - 12;
+    let blanks = own.len() - 12;
     let mut i: usize = 0;
-    while i < width {
-        let wanted = composed_byte(rec, line, serial, symbol, blanks, i);
-        if record::part_byte(rec, line, field, i) != wanted {
+    while i < own.len() {
+        if own[i] != composed_byte(symbol, serial, blanks, i) {
             return false;
         }
         i += 1;
     }
     true
+}
+
+// What a field of eight bytes holds.
+fn serial_of(rec: &[u8], line: Line, serial: Field) -> [u8; 8]
+    requires { ⌜ Has (now rec) serial × (serial .width ≡ 8) ⌝ }
+    ensures { λ r. ⌜ r ≡ held (seen line (now (rec .entry))) serial ⌝ }
+{
+    let mut copy = [0u8; 8];
+    record::copy_field(rec, line, serial, &mut copy);
+    copy
+}
+
+// The field holds the symbol, what the other field holds, and blanks. Both are copied, so that each is translated once.
+fn holds_composed(rec: &[u8], line: Line, field: Field, serial: Field, symbol: [u8; 4]) -> bool
+    requires { ⌜ Has (now rec) field × Has (now rec) serial × (serial .width ≡ 8) × (12 ≤ field .width) × (field .width ≤ 20) ⌝ }
+    ensures { λ r. ⌜ r ≡ alike (held (seen line (now (rec .entry))) field) (symbolAndSerial symbol (held (seen line (now (rec .entry))) serial) (field .width - 12)) ⌝ }
+{
+    let number = serial_of(rec, line, serial);
+    let width = field.width;
+    let mut copy = [0u8; 20];
+    let own = &mut copy[..width];
+    record::copy_field(rec, line, field, own);
+    is_composed(own, symbol, number)
 }
 
 // Required, repeats no earlier one, and is the symbol, the serial number and blanks (fields 6 and 23 in check batches).
@@ -121,7 +136,7 @@ pub fn composed(
     if repeats {
         return REPEATED;
     }
-    if is_composed(rec, line, field, serial, symbol) {
+    if holds_composed(rec, line, field, serial, symbol) {
         return 0;
     }
     UNLIKE

@@ -60,7 +60,7 @@ fn is_unbroken(rec: &[u8], line: Line, field: Field) -> bool
     let width = field.width;
     let mut i: usize = 0;
     while i < width {
-        if record::part_byte(rec, line, field, i) == 0x40 {
+        if record::part_is(rec, line, field, i, 0x40, 0x20) {
             return false;
         }
         i += 1;

@@ -3,15 +3,15 @@
 use mathlib.Core.Path.{_≡_, refl, ap, sym, _∙_}
 use mathlib.Core.Bool.{Bool, true, false, true≢false, not, _&&_}
 use mathlib.Core.List.{List, [], _∷_, map}
-use Prim.Native.Nat.{ℕ, suc, _+_, _-_, _*_, _≤_, _<_, min}
+use Prim.Native.Nat.{ℕ, _+_, _-_, _%_, _≤_, _<_, min}
 use native.Mathlib.Numerals.{add-one}
 use native.Mathlib.Omega.{arith}
-use lib.Bits.{bitXor, bitAnd, xor-add-and, and-le-l, and-le-r}
+use lib.Bits.{bitXor, xor-add-and, and-le-l, and-le-r}
 use lib.Dec.{leb, eqb}
 use lib.ListN.{length, take, drop, getD, drop-of-length-le}
 use lib.Seq.{drop-cons, slice}
 use borrow.Author.Tests.{lt-leb, le-leb, leb-true, leb-false}
-use Rattle.page.specs.CodePage.{codePage, ebcdic, shown, twins}
+use Rattle.page.specs.CodePage.{ebcdic, shown, twins}
 use Rattle.page.proofs.CodePage.{below, below-each, digit-lands, digit-sent, twin-byte, twin-rest, valid-sent}
 use Rattle.page.proofs.Shown.{shownByte, shown-take, shown-drop, shown-at}
 use Rattle.record.specs.declared.Order.{Order}
@@ -166,21 +166,31 @@ unfolding digits
 digits-sent rec p from to z r e h =
     h ∙ rw (value-sent rec p, slice-shown (p .ascii) from to (sent rec p)) (digits-all z (p .ascii) (slice from to (sent rec p)) e)
 
--- what a digit counts
-counts : (c : Bool) (s z v : ℕ) → (0xF0 ≤ v) × (v ≤ 0xF9) → v ≡ shownByte c s → z ≡ choose c 0x30 0xF0 → (z ≤ s) × (s - z ≤ 9) × (s - z ≡ v - 0xF0)
-unfolding choose
-counts true s z v r e f =
+-- what a digit counts: its low half
+counts : (c : Bool) (s v : ℕ) → (0xF0 ≤ v) × (v ≤ 0xF9) → v ≡ shownByte c s → (s % 16 ≡ v - 0xF0) × (s % 16 ≤ 9)
+counts true s v r e =
     let t = digit-sent s (omega (arith, r .0, e)) (omega (arith, r .1, e)) in
-    (omega (arith, t .0), omega (arith, t .2, t .0), omega (arith, t .1, t .0, e))
-counts false s z v r e f = (omega (arith, r .0, e), omega (arith, r .1, r .0, e), omega (arith, e))
+    (omega (arith, t .0, t .1, t .2, e), omega (arith, t .0, t .2))
+counts false s v r e = (omega (arith, r .0, r .1, e), omega (arith, r .0, r .1, e))
 
-module _ (rec : List ℕ) (p : Place) (from to i s z : ℕ) (w : Within rec p) (k : to ≤ p .width) (l : from ≤ i) (h : i < to) (d : digits (slice from to (value rec p)) ≡ true)
-    (e : s ≡ getD (sent rec p) i 0) (f : z ≡ choose (p .ascii) 0x30 0xF0) where
-  seen-byte : getD (value rec p) i 0 ≡ shownByte (p .ascii) s
+module _ (rec : List ℕ) (p : Place) (i s : ℕ) (w : Within rec p) (k : i < p .width) (e : s ≡ getD (sent rec p) i 0) where
+  pub seen-byte : getD (value rec p) i 0 ≡ shownByte (p .ascii) s
   seen-byte = ap (λ (xs : List ℕ). getD xs i 0) (value-sent rec p) ∙ shown-at (p .ascii) (sent rec p) i (omega (arith, value-length rec (plain p) (within-plain rec p w))) ∙ ap (shownByte (p .ascii)) (sym e)
 
-  pub digit-told : (z ≤ s) × (s - z ≤ 9) × (s - z ≡ getD (value rec p) i 0 - 0xF0)
-  digit-told = counts (p .ascii) s z (getD (value rec p) i 0) (digit-at rec p from to i (getD (value rec p) i 0) w k l h d refl) seen-byte f
+pub digit-told : (rec : List ℕ) (p : Place) (from to i s : ℕ) → Within rec p → from ≤ i → i < to → to ≤ p .width → digits (slice from to (value rec p)) ≡ true → s ≡ getD (sent rec p) i 0
+    → (s % 16 ≡ getD (value rec p) i 0 - 0xF0) × (s % 16 ≤ 9)
+digit-told rec p from to i s w l h k d e =
+    counts (p .ascii) s (getD (value rec p) i 0) (digit-at rec p from to i (getD (value rec p) i 0) w k l h d refl) (seen-byte rec p i s w (omega arith) e)
+
+-- one byte
+pub byte-told : (rec : List ℕ) (p : Place) (i s b a w : ℕ) (r : Bool) → Within rec p → i < p .width → twins (a ∷ []) (b ∷ []) ≡ true → w ≡ choose (p .ascii) a b → s ≡ getD (sent rec p) i 0
+    → r ≡ eqb s w → r ≡ eqb (getD (value rec p) i 0) b
+unfolding choose
+byte-told rec p i s b a w r k l t e f h = h ∙ go (p .ascii) refl ∙ ap (λ (x : ℕ). eqb x b) (sym (seen-byte rec p i s k l f))
+  where
+    go : (c : Bool) → p .ascii ≡ c → eqb s w ≡ eqb (shownByte (p .ascii) s) b
+    go true q = let v : w ≡ a = rw q at e in rw (q, v) (sym (twin-byte a b [] [] t s))
+    go false q = let v : w ≡ b = rw q at e in rw (q, v)
 
 -- the byte rule of ASCII
 unfoldable pub LowPrintable : List ℕ → ℕ → ℕ → Type 0

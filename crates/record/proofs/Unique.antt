@@ -9,6 +9,7 @@ use Rattle.record.proofs.field_is.Reads as field-is
 use Rattle.record.proofs.field_digits.Reads as field-digits
 use Rattle.record.proofs.field_number.Reads as field-number
 use Rattle.record.proofs.part_byte.Reads as part-byte
+use Rattle.record.proofs.part_is.Reads as part-is
 use Rattle.record.proofs.copy_field.Reads as copy-field
 use Rattle.record.proofs.part_digits.Reads as part-digits
 use Rattle.record.proofs.part_number.Reads as part-number
@@ -18,7 +19,8 @@ use Rattle.record.proofs.field_part.Reads as field-part
 use Rattle.record.proofs.codes.code_bytes.Reads as code-bytes
 use Rattle.record.proofs.codes.code_of.Reads as code-of
 use Rattle.record.proofs.codes.is_detail.Reads as is-detail
-use Rattle.record.proofs.codes.is_header.Reads as is-header
+use Rattle.record.proofs.codes.has_detail.Reads as has-detail
+use Rattle.record.proofs.codes.has_header.Reads as has-header
 use Rattle.record.proofs.codes.is_trailer.Reads as is-trailer
 use Rattle.record.proofs.codes.letter_in.Reads as letter-in
 use Rattle.record.proofs.routing.field_routing.Reads as field-routing
@@ -48,6 +50,9 @@ field-number-unique κs a r s x y p q = p ∙ sym q
 pub part-byte-unique : OneResult part-byte.Post
 part-byte-unique κs a r s x y p q = p ∙ sym q
 
+pub part-is-unique : OneResult part-is.Post
+part-is-unique κs a r s x y p q = p ∙ sym q
+
 -- behind three arguments, `.0` is the copy
 pub field-part-unique : (κs : _) (a : _) (r s : _) (x y : _) → field-part.Post κs a r x → field-part.Post κs a s y → now r ≡ now s
 field-part-unique κs a r s x y p q = p ∙ sym q
@@ -76,8 +81,11 @@ code-of-unique κs a r s x y p q = p ∙ sym q
 pub is-detail-unique : OneResult is-detail.Post
 is-detail-unique κs a r s x y p q = p ∙ sym q
 
-pub is-header-unique : OneResult is-header.Post
-is-header-unique κs a r s x y p q = p ∙ sym q
+pub has-detail-unique : OneResult has-detail.Post
+has-detail-unique κs a r s x y p q = p ∙ sym q
+
+pub has-header-unique : OneResult has-header.Post
+has-header-unique κs a r s x y p q = p ∙ sym q
 
 pub is-trailer-unique : OneResult is-trailer.Post
 is-trailer-unique κs a r s x y p q = p ∙ sym q

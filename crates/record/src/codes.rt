@@ -1,13 +1,15 @@
 // Record codes (004 section 1.2), compared with their fixed EBCDIC bytes.
 use crate::Line;
+use crate::field_is;
 use crate::layout::RECORD_CODE;
+use page::translate_all;
 ghost use mathlib.Core.Path.{_≡_};
 ghost use Prim.Native.Nat.{_≤_};
 ghost use lib.ListN.{length};
 ghost use Rattle.record.specs.Fields.{recordCode};
 ghost use Rattle.record.specs.Value.{seen, held};
 ghost use Rattle.record.specs.Tests.{alike};
-ghost use Rattle.record.specs.Codes.{codeIn, codes, details, batches, frames, isDetail, isHeader, isTrailer, letterIn};
+ghost use Rattle.record.specs.Codes.{codeIn, codeOf, codes, details, batches, frames, isDetail, isHeader, isTrailer, letterIn};
 
 // The kind of a batch and of its details.
 pub enum Letter {
@@ -31,14 +33,17 @@ pub enum Code {
     Unknown,
 }
 
-// The two bytes with which a record begins.
+// The two bytes with which a record begins. They are copied only where they are translated, so that nothing of it is on the stack where they are not.
 pub fn code_bytes(rec: &[u8], line: Line) -> [u8; 2]
     requires { ⌜ 2 ≤ length (now rec) ⌝ }
     ensures { λ r. ⌜ r ≡ held (seen line (now (rec .entry))) recordCode ⌝ }
 {
-    let first = crate::part_byte(rec, line, RECORD_CODE, 0);
-    let second = crate::part_byte(rec, line, RECORD_CODE, 1);
-    [first, second]
+    if line.ascii {
+        let mut bytes = [rec[0], rec[1]];
+        translate_all(&mut bytes);
+        return bytes;
+    }
+    [rec[0], rec[1]]
 }
 
 // The bytes are those of this code.
@@ -139,14 +144,47 @@ pub fn is_detail(code: Code) -> bool
     }
 }
 
-// The code is a batch header's.
-pub fn is_header(code: Code) -> bool
-    ensures { λ r. ⌜ r ≡ isHeader code ⌝ }
+// The record is a detail: one of five codes, compared as they were sent. Half of the records or more are DX, which is asked for first.
+pub fn has_detail(rec: &[u8], line: Line) -> bool
+    requires { ⌜ 2 ≤ length (now rec) ⌝ }
+    ensures { λ r. ⌜ r ≡ isDetail (codeOf (seen line (now (rec .entry)))) ⌝ }
 {
-    match code {
-        Code::Batch(_) => true,
-        _ => false,
+    if field_is(rec, line, RECORD_CODE, b"\xC4\xE7", b"DX") {
+        return false;
     }
+    if field_is(rec, line, RECORD_CODE, b"\xC4\xD5", b"DN") {
+        return true;
+    }
+    if field_is(rec, line, RECORD_CODE, b"\xC4\xC3", b"DC") {
+        return true;
+    }
+    if field_is(rec, line, RECORD_CODE, b"\xC4\xE6", b"DW") {
+        return true;
+    }
+    if field_is(rec, line, RECORD_CODE, b"\xC4\xC9", b"DI") {
+        return true;
+    }
+    field_is(rec, line, RECORD_CODE, b"\xC4\xC1", b"DA")
+}
+
+// The record is a batch header: one of five codes, compared as they were sent.
+pub fn has_header(rec: &[u8], line: Line) -> bool
+    requires { ⌜ 2 ≤ length (now rec) ⌝ }
+    ensures { λ r. ⌜ r ≡ isHeader (codeOf (seen line (now (rec .entry)))) ⌝ }
+{
+    if field_is(rec, line, RECORD_CODE, b"\xC2\xD5", b"BN") {
+        return true;
+    }
+    if field_is(rec, line, RECORD_CODE, b"\xC2\xC3", b"BC") {
+        return true;
+    }
+    if field_is(rec, line, RECORD_CODE, b"\xC2\xE6", b"BW") {
+        return true;
+    }
+    if field_is(rec, line, RECORD_CODE, b"\xC2\xC9", b"BI") {
+        return true;
+    }
+    field_is(rec, line, RECORD_CODE, b"\xC2\xC1", b"BA")
 }
 
 // The code is BT.

@@ -6,8 +6,9 @@ pub mod routing;
 
 ghost use mathlib.Core.Path.{_≡_};
 ghost use mathlib.Core.Bool.{true};
-ghost use mathlib.Core.List.{[]};
+ghost use mathlib.Core.List.{[], _∷_};
 ghost use Prim.Native.Nat.{_-_, _<_, _≤_};
+ghost use lib.Dec.{eqb};
 ghost use lib.ListN.{length, getD};
 ghost use lib.Seq.{slice};
 ghost use Rattle.page.specs.CodePage.{twins};
@@ -99,6 +100,15 @@ pub fn part_byte(rec: &[u8], line: Line, field: Field, i: usize) -> u8
 {
     let place = place::locate(rec, line, field);
     place::byte(rec, place, i)
+}
+
+// The field's byte at `i`, counted from 0, is this one, which ASCII files send as `ascii`.
+pub fn part_is(rec: &[u8], line: Line, field: Field, i: usize, b: u8, ascii: u8) -> bool
+    requires { ⌜ Has (now rec) field × (i < field .width) × (twins (ascii ∷ []) (b ∷ []) ≡ true) ⌝ }
+    ensures { λ r. ⌜ r ≡ eqb (getD (held (seen line (now (rec .entry))) field) i 0) b ⌝ }
+{
+    let place = place::locate(rec, line, field);
+    place::is_byte(rec, place, i, b, ascii)
 }
 
 // The part of the record that is what the field holds, or an empty part where the record has to be translated.

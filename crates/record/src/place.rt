@@ -7,7 +7,7 @@ use page::translate_all;
 ghost use mathlib.Core.Path.{_≡_};
 ghost use mathlib.Core.Bool.{true};
 ghost use mathlib.Core.List.{[], _∷_};
-ghost use lib.Dec.{leb};
+ghost use lib.Dec.{leb, eqb};
 ghost use Prim.Native.Nat.{_-_, _<_, _≤_, min};
 ghost use lib.ListN.{length, getD};
 ghost use lib.Seq.{slice};
@@ -95,6 +95,15 @@ fn sent_as(place: Place, b: u8, ascii: u8) -> u8
     b
 }
 
+// The value's byte at `i` is `b`, which ASCII files send as `ascii`: no byte is translated.
+pub(crate) fn is_byte(rec: &[u8], place: Place, i: usize, b: u8, ascii: u8) -> bool
+    requires { ⌜ Within (now rec) place × (i < place .width) × (twins (ascii ∷ []) (b ∷ []) ≡ true) ⌝ }
+    ensures { λ r. ⌜ r ≡ eqb (getD (value (now (rec .entry)) place) i 0) b ⌝ }
+{
+    let wanted = sent_as(place, b, ascii);
+    sent_byte(rec, place, i) == wanted
+}
+
 // Every byte at the place was sent as `b`.
 fn has_only(rec: &[u8], place: Place, b: u8) -> bool
     requires { ⌜ Within (now rec) place ⌝ }
@@ -144,12 +153,12 @@ pub(crate) fn are_digits(rec: &[u8], place: Place, from: usize, to: usize) -> bo
     are_near(rec, place, zero, from, to)
 }
 
-// What the digit at `i` counts, in a part that is digits.
+// What the digit at `i` counts, in a part that is digits: its low half, in either code.
 fn digit(rec: &[u8], place: Place, from: usize, to: usize, i: usize) -> u64
     requires { ⌜ Within (now rec) place × (from ≤ i) × (i < to) × (to ≤ place .width) × (digits (slice from to (value (now rec) place)) ≡ true) ⌝ }
     ensures { λ r. ⌜ (r ≡ getD (value (now (rec .entry)) place) i 0 - 0xF0) × (r ≤ 9) ⌝ }
 {
-    let b = sent_byte(rec, place, i) - sent_as(place, 0xF0, 0x30);
+    let b = sent_byte(rec, place, i) % 16;
     b as u64
 }
 

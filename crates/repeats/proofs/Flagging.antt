@@ -9,6 +9,7 @@ use borrow.Author.Tests.{leb-true, leb-false, ltb-true, ltb-false, lt-ltb, le-lt
 use lib.Dec.{leb, ltb}
 use lib.ListN.{length, drop, set, getD, length-append, length-drop, drop-of-length-le}
 use lib.Seq.{drop-at, drop-cons}
+use Rattle.page.proofs.Shown.{set-seam}
 use Rattle.record.specs.Choice.{_and_, _or_, choose}
 use Rattle.record.specs.Value.{held}
 use Rattle.nesting.specs.Division.{Record}
@@ -25,10 +26,6 @@ use Rattle.repeats.proofs.Ranges.{numbers-append, between-join, meets-j
 use Rattle.repeats.proofs.Visits.{Filling, filling-none, filling-next, visit-meets, visit-next}
 
 -- a flag among others is set
-set-seam : (xs ys : List ℕ) (y z : ℕ) → set (xs ++ y ∷ ys) (length xs) z ≡ xs ++ z ∷ ys
-set-seam [] ys y z = refl
-set-seam (x ∷ xs) ys y z = ap (_∷_ x) (set-seam xs ys y z)
-
 set-told : (known : Bool) (xs ys : List ℕ) (y : ℕ) → choose known (set (xs ++ y ∷ ys) (length xs) 1) (xs ++ y ∷ ys) ≡ xs ++ choose known 1 y ∷ ys
 unfolding choose
 set-told true xs ys y = set-seam xs ys y 1

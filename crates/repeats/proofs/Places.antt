@@ -7,7 +7,6 @@ use Prim.Native.Nat.{ℕ, _+_, _*_, _≤_}
 use native.Mathlib.Omega.{arith}
 use lib.ListN.{length}
 use Rattle.record.specs.declared.Field.{Field}
-use Rattle.record.specs.declared.codes.Code.{Code}
 use Rattle.page.specs.CodePage.{shown}
 use Rattle.record.specs.Value.{held}
 use Rattle.record.specs.Tests.{alike}
@@ -20,14 +19,14 @@ use Rattle.repeats.specs.declared.Sort.the-variants.{Payments, Batches}
 use Rattle.repeats.specs.Repeats.{numbering, isOf}
 
 -- the record at the place is of the sort
-module _ (sort : Sort) (ascii : Bool) (first place : ℕ) (xs : List ℕ) (k : Code) (r : Bool) (e : k ≡ codeOf (recordFrom ascii xs (place * 850))) where
-  pub of-payments : sort ≡ Payments → r ≡ isDetail k → r ≡ isOf sort (recordAt first place (shown ascii xs))
+module _ (sort : Sort) (ascii : Bool) (first place : ℕ) (xs : List ℕ) (r : Bool) where
+  pub of-payments : sort ≡ Payments → r ≡ isDetail (codeOf (recordFrom ascii xs (place * 850))) → r ≡ isOf sort (recordAt first place (shown ascii xs))
   unfolding isOf
-  of-payments s h = rw (s, ← from-place ascii first place xs, ← e) h
+  of-payments s h = rw (s, ← from-place ascii first place xs) h
 
-  pub of-batches : sort ≡ Batches → r ≡ isHeader k → r ≡ isOf sort (recordAt first place (shown ascii xs))
+  pub of-batches : sort ≡ Batches → r ≡ isHeader (codeOf (recordFrom ascii xs (place * 850))) → r ≡ isOf sort (recordAt first place (shown ascii xs))
   unfolding isOf
-  of-batches s h = rw (s, ← from-place ascii first place xs, ← e) h
+  of-batches s h = rw (s, ← from-place ascii first place xs) h
 
 -- the field of the sort, in the bytes of a record as the code takes them
 number-start : (sort : Sort) → 1 ≤ numbering sort .start

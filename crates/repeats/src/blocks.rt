@@ -18,7 +18,7 @@ ghost use Rattle.repeats.specs.Repeats.{numbering, firstRepeat};
 ghost use Rattle.repeats.specs.Blocks.{visited, tableVisited, Blocked};
 
 // The numbers that a block has room for.
-const TABLE: usize = 4096;
+pub(crate) const TABLE: usize = 4096;
 
 // What is known after a record of a block: whether it is of the sort, whether the table holds its number, the places in the table, and the
 // first record that found no room.

@@ -1,6 +1,7 @@
 // Batches whose schedule number an earlier batch has, all at once: the numbers of a block of headers stand in a sorted table on the stack, and
 // every later header is looked up in it, so that each block costs one pass whatever the numbers are.
 use crate::Sort;
+use crate::blocks::TABLE;
 use crate::blocks::visit;
 use record::Line;
 ghost use mathlib.Core.Path.{_≡_};
@@ -14,9 +15,6 @@ ghost use Rattle.repeats.specs.Repeats.{numbers};
 ghost use Rattle.repeats.specs.Blocks.{between};
 ghost use Rattle.repeats.specs.Marking.{zeros, indexAfter, Marked};
 ghost use Rattle.repeats.specs.Schedules.{numbersBefore, numbersFrom, flagsOf};
-
-// The schedule numbers that a block has room for: half as many as a block of Payment IDs, since the table stands in the entry's own frame.
-const TABLE: usize = 2048;
 
 // Where the next block begins, and the index of the flag of the first header from there on.
 struct NextBlock {

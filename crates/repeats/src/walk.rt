@@ -2,10 +2,8 @@
 use crate::Sort;
 use record::Field;
 use record::Line;
-use record::codes::code_bytes;
-use record::codes::code_of;
-use record::codes::is_detail;
-use record::codes::is_header;
+use record::codes::has_detail;
+use record::codes::has_header;
 use record::layout::PAYMENT_ID;
 use record::layout::SCHEDULE_NUMBER;
 ghost use mathlib.Core.Path.{_≡_};
@@ -38,10 +36,11 @@ pub(crate) fn is_of(file: &[u8], first: Line, place: usize, sort: Sort) -> bool
     let end = at + 850;
     let number = first.number + place;
     let ascii = first.ascii;
-    let code = code_of(code_bytes(&file[at..end], Line { number, ascii }));
+    let rec = &file[at..end];
+    let line = Line { number, ascii };
     match sort {
-        Sort::Payments => is_detail(code),
-        Sort::Batches => is_header(code),
+        Sort::Payments => has_detail(rec, line),
+        Sort::Batches => has_header(rec, line),
     }
 }
 

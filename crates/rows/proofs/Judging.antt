@@ -12,8 +12,10 @@ use Rattle.book.specs.Book.{Contents}
 use Rattle.nesting.specs.Division.{batchLines}
 use Rattle.batch.specs.declared.Row.{Row}
 use Rattle.batch.specs.Batch.{Judgeable, IsRow, rowOf}
+use Rattle.report.specs.Rows.{rowBytes, rowAt, over}
+use Rattle.rows.specs.declared.Judged.{Judged}
 use Rattle.rows.specs.Report.{batchRow}
-use Rattle.rows.specs.Standing.{Opens, judged, IsJudged}
+use Rattle.rows.specs.Standing.{Opens, judged, IsJudged, IsWritten}
 use Rattle.rows.proofs.Places.{restOf, rest, counted, batch-of, judgeable}
 
 module _ (ascii : Bool) (sent : List ℕ) {place : ℕ} (s : Opens (shown ascii sent) place) where
@@ -56,3 +58,10 @@ module _ (ascii : Bool) (sent : List ℕ) {place : ℕ} (s : Opens (shown ascii 
         let m : row .records ≡ length (batchLines b) = ap (λ (q : Row). q .records) e in
         let o : ns ≡ batchRow (rowOf book repeats (place + 1) b) = q ∙ ap batchRow e in
         rw (o, m)
+
+-- its row is written behind so many others
+pub is-written : (book : Contents) (file : List ℕ) (repeats : Bool) (place written at : ℕ) (report after : List ℕ) (r : Judged) → IsJudged book file repeats place r → at ≡ rowAt written
+    → after ≡ over report at (rowBytes (r .numbers)) → IsWritten book file repeats place written report (r .place) after
+is-written book file repeats place written at report after r j q p earlier b t =
+    let e : r ≡ judged book repeats place b = j earlier b t in
+    (ap (λ (x : Judged). x .place) e, p ∙ rw (q, e))

@@ -6,6 +6,7 @@ use mathlib.Core.List.{List, [], _∷_, _++_, map, append-assoc, append-nil}
 use Prim.Native.Nat.{ℕ, _+_, _-_, _/_, _<_, _≤_}
 use native.Mathlib.Omega.{arith}
 use lib.ListN.{length, take, drop, length-append, take-append-drop}
+use lib.Seq.{length-take-le, take-take, take-at}
 use Rattle.money.specs.declared.Amount.{Amount}
 use Rattle.book.specs.Book.{Contents}
 use Rattle.nesting.specs.Division.{Batch, Division, DivisionOf, batchLines, recordsBefore, lines}
@@ -22,7 +23,7 @@ use Rattle.repeats.proofs.Schedules.{noted-next}
 use Rattle.batch.specs.Batch.{rowOf}
 use Rattle.rows.specs.declared.Judged.{Judged}
 use Rattle.rows.specs.Report.{headRow, batchRow, scheduleOf, batchRows, headOf, rowsOf, reported, Writable, Written}
-use Rattle.rows.specs.Standing.{Stands, Opens, judged, IsJudged, flagsAt, flagsIn, Numberable}
+use Rattle.rows.specs.Standing.{Stands, Opens, judged, IsWritten, flagsAt, flagsIn, Numberable}
 use Rattle.rows.proofs.Places.{counted, number-is, before-is, before-after, from-here, from-after, is-batched}
 use Rattle.rows.proofs.Sizes.{place-next, batches-few, batches-size}
 use Rattle.rows.proofs.Reported.{reported-is, eights-next}
@@ -147,8 +148,8 @@ module _ {book : Contents} {file : List ℕ} {payments batches : ℕ} {first rep
           rw o (over-length report (flagsAt batches written) flags (rw fits (omega (arith, flags-end batches written h, room))))
 
       -- its row has room
-      pub row-fits : (at : ℕ) → at ≡ rowAt written → at + 64 ≤ length mid
-      row-fits at q = rw mid-length (row-room at written batches (length report) q h room)
+      pub row-fits : rowAt written + 64 ≤ length mid
+      row-fits = rw mid-length (row-room (rowAt written) written batches (length report) refl h room)
 
       repeats-is : n .repeats ≡ member (scheduleOf b) (map scheduleOf (g .earlier))
       unfolding numbered
@@ -170,19 +171,18 @@ module _ {book : Contents} {file : List ℕ} {payments batches : ℕ} {first rep
           (take-through (over report (flagsAt batches written) flags) (rowAt written) row i
           ∙ ap (λ (xs : List ℕ). xs ++ row) (rows-stay batches written report flags row h room fits l i ∙ g .front))
 
-      pub turned : (r : Judged) (after : List ℕ) (at : ℕ) → IsJudged book file (n .repeats) place r → at ≡ rowAt written → after ≡ over mid at (rowBytes (r .numbers))
-          → Going book file payments batches first after (n .greatest) (n .marked) (r .place) (written + 1)
+      pub turned : (next' : ℕ) (after : List ℕ) → IsWritten book file (n .repeats) place written mid next' after → Going book file payments batches first after (n .greatest) (n .marked) next' (written + 1)
       unfolding judged batchRows batchRow stands
-      turned r after at j q p =
-          let f : r ≡ judged book (n .repeats) place b = j (g .earlier) b stands in
-          let eight : length (r .numbers) ≡ 8 = ap (λ (q : Judged). length (q .numbers)) f in
+      turned next' after j =
+          let r : Judged = judged book (n .repeats) place b in
+          let eight : length (r .numbers) ≡ 8 = refl in
           let bytes : length (rowBytes (r .numbers)) ≡ 64 = row-length (r .numbers) eight in
-          let z : r .place ≡ place + length (batchLines b) = ap (λ (q : Judged). q .place) f in
-          let m : place + 1 + length (batchLines b) ≡ r .place + 1 = omega (arith, z) in
-          let a : after ≡ over (over report (flagsAt batches written) flags) (rowAt written) (rowBytes (r .numbers)) = p ∙ rw (q, o) in
-          let i : rowAt written ≤ length (over report (flagsAt batches written) flags) = rw (← o) (omega (arith, row-fits (rowAt written) refl)) in
+          let z : next' ≡ place + length (batchLines b) = j (g .earlier) b stands .0 in
+          let m : place + 1 + length (batchLines b) ≡ next' + 1 = omega (arith, z) in
+          let a : after ≡ over (over report (flagsAt batches written) flags) (rowAt written) (rowBytes (r .numbers)) = j (g .earlier) b stands .1 ∙ rw o in
+          let i : rowAt written ≤ length (over report (flagsAt batches written) flags) = rw (← o) (omega (arith, row-fits)) in
           let k : r .numbers ≡ batchRow (rowOf book (member (scheduleOf b) (map scheduleOf (g .earlier))) (place + 1) b) =
-          ap (λ (q : Judged). q .numbers) f ∙ ap (λ (t : Bool). batchRow (rowOf book t (place + 1) b)) repeats-is in
+          ap (λ (t : Bool). batchRow (rowOf book t (place + 1) b)) repeats-is in
           record {
             total = g .total;
             writable = w;
@@ -195,7 +195,7 @@ module _ {book : Contents} {file : List ℕ} {payments batches : ℕ} {first rep
             eights = eights-next (g .rows) (r .numbers) (g .eights) eight;
             size = rw length-append (omega (arith, g .size));
             turns = rw length-append (omega (arith, g .turns));
-            long = rw a (over-length (over report (flagsAt batches written) flags) (rowAt written) (rowBytes (r .numbers)) (rw (bytes, ← o) (row-fits (rowAt written) refl))) ∙ ap length (sym o) ∙ mid-length ∙ g .long;
+            long = rw a (over-length (over report (flagsAt batches written) flags) (rowAt written) (rowBytes (r .numbers)) (rw (bytes, ← o) (row-fits))) ∙ ap length (sym o) ∙ mid-length ∙ g .long;
             front = front-after (rowBytes (r .numbers)) bytes i after a ∙ rw (rows-snoc (g .rows) (r .numbers)) (append-assoc (take (rowAt 0) first) (rowsBytes (g .rows)) (rowBytes (r .numbers)));
             rear = rw a (rest-stays batches written report flags (rowBytes (r .numbers)) h room fits bytes i) ∙ g .rear;
             decides =
@@ -203,6 +203,55 @@ module _ {book : Contents} {file : List ℕ} {payments batches : ℕ} {first rep
                 ∙ (λ i. g .rows ++ sym k i ∷ batchRows book (m i) (g .earlier ++ b ∷ []) later)
                 ∙ sym (append-assoc (g .rows) (r .numbers ∷ []) _);
           }
+
+-- the same of another report with the head, which differs at the rows alone
+module _ {book : Contents} {file : List ℕ} {payments batches : ℕ} {first report greatest : List ℕ} {marked : Bool} {place written : ℕ}
+    (g : Going book file payments batches first report greatest marked place written) where
+  based : (other : List ℕ) → length other ≡ length first → take (rowAt 0) other ≡ take (rowAt 0) first → drop (roomFor batches) other ≡ drop (roomFor batches) first
+      → Going book file payments batches other report greatest marked place written
+  based other l f r =
+      record {
+        total = g .total;
+        writable =
+            record {
+              cuttable = g .writable .cuttable;
+              division = g .writable .division;
+              divided = g .writable .divided;
+              paid = g .writable .paid;
+              summed = g .writable .summed;
+              count = g .writable .count;
+              room = rw l (g .writable .room);
+            };
+        earlier = g .earlier;
+        later = g .later;
+        whole = g .whole;
+        start = g .start;
+        noted = g .noted;
+        rows = g .rows;
+        eights = g .eights;
+        size = g .size;
+        turns = g .turns;
+        long = g .long ∙ sym l;
+        front = g .front ∙ ap (λ (xs : List ℕ). xs ++ rowsBytes (g .rows)) (sym f);
+        rear = g .rear ∙ sym r;
+        decides = g .decides;
+      }
+
+  head-stays : take (rowAt 0) report ≡ take (rowAt 0) first
+  unfolding rowAt roomFor
+  head-stays =
+      let n : length (take (rowAt 0) first) ≡ rowAt 0 = length-take-le (rowAt 0) first (omega (arith, g .writable .room)) in
+      sym (take-take (rowAt 0) (rowAt written) report (omega arith)) ∙ ap (take (rowAt 0)) (g .front) ∙ take-at (take (rowAt 0) first) (rowsBytes (g .rows)) (rowAt 0) n
+
+-- of the report that it is itself, and back
+module _ {book : Contents} {file : List ℕ} {payments batches : ℕ} {first report greatest : List ℕ} {marked : Bool} {place written : ℕ}
+    (g : Going book file payments batches first report greatest marked place written) where
+  pub rebased : Going book file payments batches report report greatest marked place written
+  rebased = based g report (g .long) (head-stays g) (g .rear)
+
+  pub onward : {later greatest' : List ℕ} {marked' : Bool} {place' written' : ℕ} → Going book file payments batches report later greatest' marked' place' written'
+      → Going book file payments batches first later greatest' marked' place' written'
+  onward h = based h first (sym (g .long)) (sym (head-stays g)) (sym (g .rear))
 
 -- the head is written, and what the file's division comes to is what it says
 module _ {file : List ℕ} {payments : ℕ} {total : Amount} {batches : ℕ} {before head first : List ℕ} (w : Writable file payments total batches before)
@@ -251,6 +300,29 @@ module _ {file : List ℕ} {payments : ℕ} {total : Amount} {batches : ℕ} {be
         rear = refl;
         decides = refl;
       }
+
+  -- there is a batch
+  pub some : 0 < batches
+  some = omega (arith, w .divided .legal .some-batches, w .count)
+
+  -- the first batch stands behind FH, whatever the book lists
+  nothing : Contents
+  nothing = record { systems = []; locations = []; betcs = []; types = []; states = []; countries = []; currencies = [] }
+
+  pub first-opens : Opens file 1
+  first-opens = opens (begun nothing []) some
+
+  pub first-numberable : (greatest : List ℕ) → Numberable file 1 greatest false batches 0 first
+  first-numberable greatest = numberable (begun nothing greatest) some
+
+  module _ (greatest : List ℕ) (o : Numbering) (mid : List ℕ) (q : o ≡ numbered file 1 greatest false)
+      (f : mid ≡ over first (flagsAt batches 0) (flagged file 1 greatest false (flagsIn batches 0 first))) where
+    pub first-fits : rowAt 0 + 64 ≤ length mid
+    first-fits = row-fits (begun nothing greatest) some o mid q f
+
+    -- after it
+    pub opened : (book : Contents) (place : ℕ) (after : List ℕ) → IsWritten book file (o .repeats) 1 0 mid place after → Going book file payments batches first after (o .greatest) (o .marked) place 1
+    opened book place after j = turned (begun book greatest) some o mid q f place after j
 
   -- the report keeps its length
   pub all-kept : {book : Contents} {report greatest : List ℕ} {marked : Bool} {place written : ℕ} → Going book file payments batches first report greatest marked place written

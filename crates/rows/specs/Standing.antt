@@ -7,7 +7,7 @@ use lib.ListN.{length, take, drop}
 use Rattle.book.specs.Book.{Contents}
 use Rattle.nesting.specs.Division.{Batch, Division, DivisionOf, batchLines, recordsBefore}
 use Rattle.nesting.specs.Records.{records, Cuttable}
-use Rattle.report.specs.Rows.{roomFor}
+use Rattle.report.specs.Rows.{rowBytes, rowAt, roomFor, over}
 use Rattle.repeats.specs.Schedules.{Noted, numbersBefore, numbersFrom, Batched}
 use Rattle.batch.specs.Batch.{rowOf}
 use Rattle.rows.specs.declared.Judged.{Judged}
@@ -35,6 +35,12 @@ judged book repeats place b = record { numbers = batchRow (rowOf book repeats (p
 -- they are those of the batch that stands there
 abbrev pub IsJudged : Contents → List ℕ → Bool → ℕ → Judged → Type 0
 IsJudged book file repeats place r = (earlier : List Batch) (b : Batch) → Stands file place earlier b → r ≡ judged book repeats place b
+
+-- the records up to its end, and the report with its row behind so many others
+abbrev pub IsWritten : Contents → List ℕ → Bool → ℕ → ℕ → List ℕ → ℕ → List ℕ → Type 0
+IsWritten book file repeats place written report next after =
+    (earlier : List Batch) (b : Batch) → Stands file place earlier b
+    → (next ≡ judged book repeats place b .place) × (after ≡ over report (rowAt written) (rowBytes (judged book repeats place b .numbers)))
 
 -- the flags of the batches whose rows are to come stand in the room of those rows, a byte each, up to where the last will end
 unfoldable pub flagsAt : ℕ → ℕ → ℕ

@@ -5,12 +5,14 @@ use money::Amount;
 use record::Line;
 use repeats::Numbering;
 ghost use mathlib.Core.Path.{_≡_};
+ghost use Prim.Native.Nat.{_+_, _<_, _≤_};
+ghost use lib.ListN.{length};
 ghost use Rattle.page.specs.CodePage.{shown};
 ghost use Rattle.book.specs.Book.{Usable, listedAt};
-ghost use Rattle.report.specs.Rows.{over};
+ghost use Rattle.report.specs.Rows.{over, rowAt};
 ghost use Rattle.repeats.specs.Schedules.{numbered, flagged};
 ghost use Rattle.rows.specs.Report.{headRow, batchRow, Writable, Written};
-ghost use Rattle.rows.specs.Standing.{Opens, IsJudged, flagsAt, flagsIn, Numberable};
+ghost use Rattle.rows.specs.Standing.{Opens, IsJudged, IsWritten, flagsAt, flagsIn, Numberable};
 
 // What is known after a batch: the numbers of its row, and the records up to its end.
 struct Judged {
@@ -97,8 +99,30 @@ fn judge_next(
     }
 }
 
+// Judges the batch that begins after so many records, and writes its row behind so many others; returns the records up to its end.
+fn write_next(
+    file: &[u8],
+    ascii: bool,
+    book: &[u8],
+    shelves: Book,
+    place: usize,
+    repeats: bool,
+    written: usize,
+    report: &mut [u8],
+) -> usize
+    requires { ⌜ Usable (now book) shelves × Opens (shown ascii (now file)) place × (written < 65536) × (rowAt written + 64 ≤ length (now report)) ⌝ }
+    ensures { λ r. ⌜ IsWritten (listedAt (now (book .entry)) shelves) (shown ascii (now (file .entry))) repeats place written (now (report .entry)) r (now (report .exit)) ⌝ }
+{
+    let judged = judge_next(file, ascii, book, shelves, place, repeats);
+    let numbers = judged.numbers;
+    let at = report::row_at(written);
+    report::write_row(report, at, numbers);
+    judged.place
+}
+
 // Writes the report of a file that nests, ASCII or not (01 Report): the head, then a row for each batch in file order, rejected or not. No byte past the
-// last row is touched.
+// last row is touched. The first batch stands apart: a function that is called in two places keeps a frame of its own, so that the table of the schedule
+// numbers is on the stack only while it is used, and not while a batch is walked.
 pub fn write_rows(
     file: &[u8],
     ascii: bool,
@@ -115,10 +139,12 @@ pub fn write_rows(
     let records = file.len() / 850;
     let head = head_numbers(records, payments, total, batches);
     report::write_row(report, 0, head);
-    let mut greatest: [u8; 14] = [0; 14];
-    let mut marked = false;
-    let mut place: usize = 1;
-    let mut written: usize = 0;
+    let none: [u8; 14] = [0; 14];
+    let opened = number_next(file, ascii, 1, none, false, batches, 0, report);
+    let mut place = write_next(file, ascii, book, shelves, 1, opened.repeats, 0, report);
+    let mut greatest = opened.greatest;
+    let mut marked = opened.marked;
+    let mut written: usize = 1;
     while written < batches {
         let number = number_next(
             file,
@@ -130,13 +156,18 @@ pub fn write_rows(
             written,
             report,
         );
-        let judged = judge_next(file, ascii, book, shelves, place, number.repeats);
-        let numbers = judged.numbers;
-        let at = report::row_at(written);
-        report::write_row(report, at, numbers);
+        place = write_next(
+            file,
+            ascii,
+            book,
+            shelves,
+            place,
+            number.repeats,
+            written,
+            report,
+        );
         greatest = number.greatest;
         marked = number.marked;
-        place = judged.place;
         written += 1;
     }
 }

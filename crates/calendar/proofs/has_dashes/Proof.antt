@@ -1,3 +1,4 @@
+use Rattle.page.specs.CodePage.{codePage, ebcdic, twins}
 use Rattle.calendar.specs.Calendar.{dashes}
 use Rattle.record.proofs.Chain.{and-no, and-yes, reads}
 use borrow.Author.Needs.{needs}
@@ -11,8 +12,9 @@ returns : tie.Need-returns
 unfolding dashes
 returns c = and-no _ _ (search reads)
 
-part-byte-requires : tie.Need-part-byte-requires
-part-byte-requires c κs = search needs
+part-is-requires : tie.Need-part-is-requires
+unfolding twins ebcdic codePage
+part-is-requires c κs = search needs
 
 returns-2 : tie.Need-returns-2
 unfolding dashes
@@ -25,8 +27,9 @@ returns-3 : tie.Need-returns-3
 unfolding dashes
 returns-3 c = and-yes _ _ _ (search reads) (and-yes _ _ _ (search reads) (and-no _ _ (search reads)))
 
-part-byte-requires-2 : tie.Need-part-byte-requires-2
-part-byte-requires-2 c κs = search needs
+part-is-requires-2 : tie.Need-part-is-requires-2
+unfolding twins ebcdic codePage
+part-is-requires-2 c κs = search needs
 
 returns-4 : tie.Need-returns-4
 unfolding dashes
@@ -45,11 +48,11 @@ has-dashes-spec =
     (tie.spec
     part-digits-requires
     returns
-    part-byte-requires
+    part-is-requires
     returns-2
     part-digits-requires-2
     returns-3
-    part-byte-requires-2
+    part-is-requires-2
     returns-4
     part-digits-requires-3
     returns-5)

@@ -1,24 +1,30 @@
+use mathlib.Core.Path.{_≡_}
 use Prim.Native.Nat.{_-_}
 use lib.ListN.{length}
+use Rattle.page.specs.CodePage.{codePage}
 use Rattle.page.proofs.Shown.{Replaced, replaced-none, replaced-length, replaced-next, replaced-all}
 use borrow.Author.Needs.{needs}
 use Rattle.page.proofs.translate_all.Statement.{statement}
 use Rattle.page.proofs.translate_all.Tie as tie
 
 abbrev Inv-loop : tie.InvT-loop
-Inv-loop bytes₀ i₀ bytes i = Replaced bytes₀ bytes i
+Inv-loop bytes₀ table i₀ bytes i = (table ≡ codePage) × Replaced bytes₀ bytes i
 
 abbrev μ-loop : tie.MeasureT-loop
-μ-loop bytes₀ i₀ bytes i = length bytes₀ - i
+μ-loop bytes₀ table i₀ bytes i = length bytes₀ - i
 
 loop-holds : tie.Need-loop-holds Inv-loop μ-loop
+unfolding codePage
 loop-holds c = search (needs, replaced-none)
 
 slice-read-byte : tie.Need-slice-read-byte Inv-loop μ-loop
 slice-read-byte c = search needs
 
-translate-requires : tie.Need-translate-requires Inv-loop μ-loop
-translate-requires c κs = search needs
+slice-aggregate-entry-of : tie.Need-slice-aggregate-entry-of Inv-loop μ-loop
+slice-aggregate-entry-of c = search needs
+
+entry-of-requires : tie.Need-entry-of-requires Inv-loop μ-loop
+entry-of-requires c κs = search needs
 
 slice-write-bytes : tie.Need-slice-write-bytes Inv-loop μ-loop
 slice-write-bytes c = search needs
@@ -27,7 +33,7 @@ add-i : tie.Need-add-i Inv-loop μ-loop
 add-i c = search needs
 
 loop-less : tie.Need-loop-less Inv-loop μ-loop
-loop-less c = let h = replaced-length _ _ _ (c .before .before .before .loop .inv) in search needs
+loop-less c = let h = replaced-length _ _ _ (c .before .before .before .before .loop .inv .1) in search needs
 
 loop-again : tie.Need-loop-again Inv-loop μ-loop
 loop-again c = search (needs, replaced-next)
@@ -46,7 +52,8 @@ translate-all-spec =
     μ-loop
     loop-holds
     slice-read-byte
-    translate-requires
+    slice-aggregate-entry-of
+    entry-of-requires
     slice-write-bytes
     add-i
     loop-less

@@ -15,8 +15,8 @@ returns-2 : tie.Need-returns-2
 unfolding composed
 returns-2 c = search (needs, chain, reads)
 
-is-composed-requires : tie.Need-is-composed-requires
-is-composed-requires c κs = search needs
+holds-composed-requires : tie.Need-holds-composed-requires
+holds-composed-requires c κs = search needs
 
 returns-3 : tie.Need-returns-3
 unfolding composed
@@ -29,4 +29,4 @@ returns-4 c = search (needs, chain, reads)
 pub composed-spec : {M : Type 1} → statement M
 composed-spec =
     tie.close
-    (tie.spec field-blank-requires returns returns-2 is-composed-requires returns-3 returns-4)
+    (tie.spec field-blank-requires returns returns-2 holds-composed-requires returns-3 returns-4)

@@ -1,25 +1,23 @@
+use Rattle.reasons.proofs.Laws.{symbol-byte, serial-byte, blank-byte}
 use borrow.Author.Needs.{needs}
 use Rattle.reasons.proofs.checks.composed_byte.Statement.{statement}
 use Rattle.reasons.proofs.checks.composed_byte.Tie as tie
-use Rattle.record.proofs.Held.{held-length}
-use mathlib.Core.Path.{_∙_}
-use Rattle.reasons.proofs.Laws.{symbol-byte, serial-byte, blank-byte}
 
 array-read-result : tie.Need-array-read-result
 array-read-result c = search needs
 
 returns : tie.Need-returns
-returns c = symbol-byte _ _ _ _ (search needs) (held-length _ _ _ (search needs) ∙ search needs) (search needs)
+returns c = search (needs, symbol-byte)
 
-part-byte-requires : tie.Need-part-byte-requires
-part-byte-requires c κs = search needs
+array-read-result-2 : tie.Need-array-read-result-2
+array-read-result-2 c = search needs
 
 returns-2 : tie.Need-returns-2
-returns-2 c = c .part-byte .ensures ∙ serial-byte _ _ _ _ (search needs) (held-length _ _ _ (search needs) ∙ search needs) (search needs) (search needs)
+returns-2 c = search (needs, serial-byte)
 
 returns-3 : tie.Need-returns-3
-returns-3 c = blank-byte _ _ _ _ (search needs) (held-length _ _ _ (search needs) ∙ search needs) (search needs) (search needs)
+returns-3 c = search (needs, blank-byte)
 
 pub composed-byte-spec : {M : Type 1} → statement M
 composed-byte-spec =
-    tie.close (tie.spec array-read-result returns part-byte-requires returns-2 returns-3)
+    tie.close (tie.spec array-read-result returns array-read-result-2 returns-2 returns-3)

@@ -4,9 +4,10 @@ use Prim.Native.Nat.{ℕ, _≤_, _-_}
 use mathlib.Core.Path.{_≡_, refl, ap}
 use mathlib.Core.Bool.{not}
 use lib.Dec.{eqb}
-use borrow.Author.Tests.{eq-eqb, ne-eqb}
+use Rattle.page.specs.CodePage.{codePage, ebcdic, twins}
 use Rattle.record.specs.Value.{held, seen}
 use Rattle.record.proofs.Held.{held-length}
+use Rattle.record.proofs.Chain.{told}
 use Rattle.reasons.proofs.Laws.{Left, left-none, left-next, left-stop, left-end}
 use borrow.Author.Needs.{needs}
 
@@ -19,13 +20,14 @@ abbrev μ-loop : tie.MeasureT-loop
 loop-holds : tie.Need-loop-holds Inv-loop μ-loop
 loop-holds c = (search needs, refl, left-none _ _)
 
-part-byte-requires : tie.Need-part-byte-requires Inv-loop μ-loop
-part-byte-requires c κs = search needs
+part-is-requires : tie.Need-part-is-requires Inv-loop μ-loop
+unfolding twins ebcdic codePage
+part-is-requires c κs = search needs
 
 returns : tie.Need-returns Inv-loop μ-loop
 returns c =
     let l = c .before .before .before .loop in
-    left-stop _ _ (l .i) _ _ (held-length _ _ _ (search needs)) (search needs) (c .before .part-byte .ensures) (l .inv .2) (ap not (eq-eqb _ _ (c .if1 .taken)))
+    left-stop _ _ (l .i) _ _ (held-length _ _ _ (search needs)) (search needs) refl (l .inv .2) (ap not (told _ _ _ (c .before .part-is .ensures) (c .if1 .taken)))
 
 add-i : tie.Need-add-i Inv-loop μ-loop
 add-i c = search needs
@@ -38,7 +40,7 @@ loop-again c =
     let l = c .before .before .before .loop in (
       search needs,
       l .inv .1,
-      left-next _ _ (l .i) _ _ (held-length _ _ _ (search needs)) (search needs) (c .before .part-byte .ensures) (l .inv .2) (ap not (ne-eqb _ _ (c .if1 .left))),
+      left-next _ _ (l .i) _ _ (held-length _ _ _ (search needs)) (search needs) refl (l .inv .2) (ap not (told _ _ _ (c .before .part-is .ensures) (c .if1 .left))),
     )
 
 returns-2 : tie.Need-returns-2 Inv-loop μ-loop
@@ -52,7 +54,7 @@ is-unbroken-spec =
     Inv-loop
     μ-loop
     loop-holds
-    part-byte-requires
+    part-is-requires
     returns
     add-i
     loop-less
