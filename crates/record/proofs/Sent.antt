@@ -10,7 +10,7 @@ use lib.Bits.{bitXor, xor-add-and, and-le-l, and-le-r}
 use lib.Dec.{leb, eqb}
 use lib.ListN.{length, take, drop, getD, drop-of-length-le}
 use lib.Seq.{drop-cons, slice}
-use borrow.Author.Tests.{lt-leb, le-leb, leb-true, leb-false}
+use borrow.Author.Tests.{lt-leb, le-leb, leb-true, leb-false, eq-eqb}
 use Rattle.page.specs.CodePage.{ebcdic, shown, twins}
 use Rattle.page.proofs.CodePage.{below, below-each, digit-lands, digit-sent, twin-byte, twin-rest, valid-sent}
 use Rattle.page.proofs.Shown.{shownByte, shown-take, shown-drop, shown-at}
@@ -191,6 +191,13 @@ byte-told rec p i s b a w r k l t e f h = h ∙ go (p .ascii) refl ∙ ap (λ (x
     go : (c : Bool) → p .ascii ≡ c → eqb s w ≡ eqb (shownByte (p .ascii) s) b
     go true q = let v : w ≡ a = rw q at e in rw (q, v) (sym (twin-byte a b [] [] t s))
     go false q = let v : w ≡ b = rw q at e in rw (q, v)
+
+-- two bytes of ASCII that were sent alike
+pub byte-same : (rec : List ℕ) (p : Place) (other : List ℕ) (q : Place) (i s t : ℕ) → Within rec p → Within other q → i < p .width → i < q .width → p .ascii ≡ true → q .ascii ≡ true
+    → s ≡ getD (sent rec p) i 0 → t ≡ getD (sent other q) i 0 → s ≡ t → true ≡ eqb (getD (value rec p) i 0) (getD (value other q) i 0)
+byte-same rec p other q i s t w v k l a b e f h =
+    let g : shownByte (p .ascii) s ≡ shownByte (q .ascii) t = rw (a, b, h) in
+    sym (eq-eqb (getD (value rec p) i 0) (getD (value other q) i 0) (seen-byte rec p i s w k e ∙ g ∙ sym (seen-byte other q i t v l f)))
 
 -- the byte rule of ASCII
 unfoldable pub LowPrintable : List ℕ → ℕ → ℕ → Type 0

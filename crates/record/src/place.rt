@@ -365,16 +365,38 @@ pub(crate) fn compare(rec: &[u8], place: Place, other: &[u8], there: Place) -> O
     sent_order(rec, place, other, there)
 }
 
+// The bytes at `i` are seen as the same: they are where both are ASCII and were sent alike, and else by translation.
+fn same_at(rec: &[u8], place: Place, other: &[u8], there: Place, i: usize) -> bool
+    requires { ⌜ Within (now rec) place × Within (now other) there × (i < place .width) × (i < there .width) ⌝ }
+    ensures { λ r. ⌜ r ≡ eqb (getD (value (now (rec .entry)) place) i 0) (getD (value (now (other .entry)) there) i 0) ⌝ }
+{
+    if place.ascii {
+        if there.ascii {
+            if sent_byte(rec, place, i) == sent_byte(other, there, i) {
+                return true;
+            }
+        }
+    }
+    byte(rec, place, i) == byte(other, there, i)
+}
+
 // The two values are the same, byte by byte as they are seen.
 fn shown_same(rec: &[u8], place: Place, other: &[u8], there: Place) -> bool
     requires { ⌜ Within (now rec) place × Within (now other) there ⌝ }
     ensures { λ r. ⌜ r ≡ alike (value (now (rec .entry)) place) (value (now (other .entry)) there) ⌝ }
 {
-    match shown_order(rec, place, other, there) {
-        Order::Before => false,
-        Order::Same => true,
-        Order::After => false,
+    let n = place.width;
+    if there.width != n {
+        return false;
     }
+    let mut i = 0;
+    while i < n {
+        if !same_at(rec, place, other, there, i) {
+            return false;
+        }
+        i += 1;
+    }
+    true
 }
 
 // The same of the bytes as they were sent.
