@@ -33,7 +33,7 @@ pub enum Code {
     Unknown,
 }
 
-// The two bytes with which a record begins. They are copied only where they are translated, so that nothing of it is on the stack where they are not.
+// The two bytes with which a record begins. They are kept in memory only where they are translated.
 pub fn code_bytes(rec: &[u8], line: Line) -> [u8; 2]
     requires { ⌜ 2 ≤ length (now rec) ⌝ }
     ensures { λ r. ⌜ r ≡ held (seen line (now (rec .entry))) recordCode ⌝ }
@@ -144,7 +144,7 @@ pub fn is_detail(code: Code) -> bool
     }
 }
 
-// The record is a detail: one of five codes, compared as they were sent. Half of the records or more are DX, which is asked for first.
+// The record is a detail: one of five codes, compared as they were sent. DX is asked for first: a batch has one for each detail, or more (01 Nesting).
 pub fn has_detail(rec: &[u8], line: Line) -> bool
     requires { ⌜ 2 ≤ length (now rec) ⌝ }
     ensures { λ r. ⌜ r ≡ isDetail (codeOf (seen line (now (rec .entry)))) ⌝ }
