@@ -48,12 +48,12 @@ extern "C" {
  * Threads: nothing is kept between calls and there is no global state. Any number of threads may call at once, also with one file and
  * one book, if their reports do not overlap.
  *
- * Space: no heap, no system calls, at most 16 KB of stack (under 10 KB where numbers rise). Of the C library it needs memcpy and memset. In threads with little stack
+ * Space: no heap, no system calls, at most 12 KB of stack (under 11 KB where numbers rise). Of the C library it needs memcpy and memset. In threads with little stack
  * have them bound when the program starts (-Wl,-z,now): bound at first use, the dynamic linker takes some 3 KB of stack more.
  *
  * Time: two passes over the file. Schedule numbers that rise in file order, and Payment IDs that climb in their batch, cost one comparison
- * each. Others cost more, and whatever they are no more than this: 96 comparisons a batch for the file's schedule numbers (12 in each of
- * at most 8 blocks of 2,048); 8 hashes and 120 comparisons a payment for a batch's Payment IDs (16 in walks, 13 in each of at most 8
+ * each. Others cost more, and whatever they are no more than this: 52 comparisons a batch for the file's schedule numbers (13 in each of
+ * at most 4 blocks of 4,096); 8 hashes and 120 comparisons a payment for a batch's Payment IDs (16 in walks, 13 in each of at most 8
  * blocks); to enter a number into a block, 4,095 moves of two bytes. Each pass, walk and block reads the code of a record at most once. A
  * batch of more than 1,000 DT takes one pass more: 10 comparisons a DT, and 1,000 moves of two bytes for each kind of TAS/BETC up to the
  * 1,001st. A batch in which a Payment ID repeats, or with too many kinds, is walked twice.
