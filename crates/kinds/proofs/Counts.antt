@@ -14,11 +14,12 @@ use Rattle.record.specs.Codes.{codeOf}
 use Rattle.nesting.specs.Records.{cut, recordAt}
 use Rattle.nesting.proofs.Cuts.{recordFrom, from-place, onward, cut-onward, cut-start}
 use Rattle.tables.specs.declared.Entry.{Entry}
+use Rattle.tables.specs.declared.Key.the-variants.{Kind}
+use Rattle.tables.specs.Kind.{kind}
 use Rattle.tables.specs.Tables.{Stands, Tabled, member, isNew, entryOf, tableAfter}
 use Rattle.tables.proofs.Tables.{Holds, member-again, holds-none, known-is, count-known, holds-known, count-new, holds-new, after-length}
-use Rattle.kinds.specs.Kinds.{kind, isAccount, kinds, different, crowded}
-use Rattle.kinds.specs.Counting.{stretch, counted, tableCounted}
-use Rattle.kinds.proofs.Stretch.{kind-held}
+use Rattle.kinds.specs.Kinds.{isAccount, kinds, different, crowded}
+use Rattle.kinds.specs.Counting.{counted, tableCounted}
 use Rattle.kinds.proofs.Different.{different-known, different-new, few-uncrowded}
 
 -- the record at the place is a DT, as the code reads it
@@ -40,11 +41,11 @@ module _ (first : ℕ) (bytes table : List ℕ) (count place : ℕ) where
   table-other o = sym (rw o)
 
   module _ (o : account ≡ true) where
-    pub table-own : (after : List ℕ) → after ≡ tableAfter first stretch bytes table count place → after ≡ tableCounted first bytes table count place
+    pub table-own : (after : List ℕ) → after ≡ tableAfter first Kind bytes table count place → after ≡ tableCounted first bytes table count place
     unfolding tableCounted choose
     table-own after a = rw o a
 
-    pub count-own : (e : Entry) (r : ℕ) → e ≡ entryOf first stretch bytes table count place → r ≡ choose (e .known) count (count + 1) → count < length table
+    pub count-own : (e : Entry) (r : ℕ) → e ≡ entryOf first Kind bytes table count place → r ≡ choose (e .known) count (count + 1) → count < length table
         → r ≡ counted first bytes table count place
     unfolding counted entryOf isNew _and_ choose
     count-own e r q z l = go (e .known) refl
@@ -56,7 +57,7 @@ module _ (first : ℕ) (bytes table : List ℕ) (count place : ℕ) where
 -- the table holds the kinds so far, and what is left of the records decides
 pub record Counted (first : ℕ) (bytes : List ℕ) (records place : ℕ) (table : List ℕ) (count : ℕ) : Type 0 where
   pub earlier : List (List ℕ)
-  pub holds : Holds first stretch bytes table count earlier
+  pub holds : Holds first Kind bytes table count earlier
   pub left : different [] (kinds (cut first records bytes)) ≡ count + different earlier (kinds (onward first place (records - place) bytes))
   pub size : length table ≡ 1001
 
@@ -66,13 +67,13 @@ module _ (first : ℕ) (bytes : List ℕ) (records : ℕ) where
       let e : records - 0 ≡ records = omega arith in
       record {
         earlier = [];
-        holds = holds-none first stretch bytes table (omega arith);
+        holds = holds-none first Kind bytes table (omega arith);
         left = rw (e, ← cut-start first records bytes) (omega arith);
         size = s;
       }
 
   module _ (place : ℕ) (table : List ℕ) (count : ℕ) (c : Counted first bytes records place table count) where
-    pub counted-tabled : Tabled first stretch bytes table count
+    pub counted-tabled : Tabled first Kind bytes table count
     counted-tabled = c .holds .tabled
 
     pub counted-room : count ≤ 1000 → count < length table
@@ -92,34 +93,34 @@ module _ (first : ℕ) (bytes : List ℕ) (records : ℕ) where
           rw (e, cut-onward first place (records - (place + 1)) bytes)
 
       abbrev entry : Entry
-      entry = entryOf first stretch bytes table count place
+      entry = entryOf first Kind bytes table count place
 
       abbrev grown : List ℕ
-      grown = tableAfter first stretch bytes table count place
+      grown = tableAfter first Kind bytes table count place
 
       module _ (next : ℕ) (after : List ℕ) where
         -- a DT of a kind that was there, and of a new one
         own : (b : Bool) → entry .known ≡ b → next ≡ entry .count → after ≡ grown → isAccount (codeOf here) ≡ true → Counted first bytes records (place + 1) after next
         unfolding choose
         own true k n t o =
-            let m : member (kind here) (c .earlier) ≡ true = rw (kind-held here) (sym (known-is first stretch bytes table count (c .earlier) place (c .holds) s entry grown refl refl) ∙ k) in
-            let x = holds-known first stretch bytes table count (c .earlier) place (c .holds) s entry grown refl refl k in
-            let z = count-known first stretch bytes table count (c .earlier) place (c .holds) s entry grown refl refl k in
+            let m : member (kind here) (c .earlier) ≡ true = sym (known-is first Kind bytes table count (c .earlier) place (c .holds) s entry grown refl refl) ∙ k in
+            let x = holds-known first Kind bytes table count (c .earlier) place (c .holds) s entry grown refl refl k in
+            let z = count-known first Kind bytes table count (c .earlier) place (c .holds) s entry grown refl refl k in
             record {
               earlier = c .earlier ++ kind here ∷ [];
               holds = rw (n, t) (record { tabled = x .tabled; same = λ y. x .same y ∙ member-again (kind here) y (c .earlier) m });
               left = c .left ∙ rw (kinds-here, o, n, z) (ap (λ (i : ℕ). count + i) (different-known (c .earlier) (kind here) rest m));
-              size = rw (t, after-length first stretch bytes table count (c .earlier) place (c .holds) s entry grown refl refl) (c .size);
+              size = rw (t, after-length first Kind bytes table count (c .earlier) place (c .holds) s entry grown refl refl) (c .size);
             }
         own false k n t o =
-            let m : member (kind here) (c .earlier) ≡ false = rw (kind-held here) (sym (known-is first stretch bytes table count (c .earlier) place (c .holds) s entry grown refl refl) ∙ k) in
-            let x = holds-new first stretch bytes table count (c .earlier) place (c .holds) s entry grown refl refl k (counted-room h) in
-            let z = count-new first stretch bytes table count (c .earlier) place (c .holds) s entry grown refl refl k (counted-room h) in
+            let m : member (kind here) (c .earlier) ≡ false = sym (known-is first Kind bytes table count (c .earlier) place (c .holds) s entry grown refl refl) ∙ k in
+            let x = holds-new first Kind bytes table count (c .earlier) place (c .holds) s entry grown refl refl k (counted-room h) in
+            let z = count-new first Kind bytes table count (c .earlier) place (c .holds) s entry grown refl refl k (counted-room h) in
             record {
               earlier = c .earlier ++ kind here ∷ [];
-              holds = rw (n, t, kind-held here) x;
+              holds = rw (n, t) x;
               left = c .left ∙ rw (kinds-here, o, n, z, different-new (c .earlier) (kind here) rest m) (omega arith);
-              size = rw (t, after-length first stretch bytes table count (c .earlier) place (c .holds) s entry grown refl refl) (c .size);
+              size = rw (t, after-length first Kind bytes table count (c .earlier) place (c .holds) s entry grown refl refl) (c .size);
             }
 
         -- a record of another code

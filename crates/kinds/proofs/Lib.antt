@@ -1,5 +1,4 @@
 mod OtherCodes
-pub mod Stretch
 pub mod Different
 mod Counts
 pub mod Unique

@@ -1,30 +1,15 @@
 -- The kinds of TAS/BETC (02 W1; 004 section 2.5): how many different ones the DT of a batch have.
 use Prim.Native.Nat.{ℕ, _+_}
 use mathlib.Core.Bool.{Bool, true, false}
-use mathlib.Core.List.{List, [], _∷_, _++_, map}
+use mathlib.Core.List.{List, [], _∷_, _++_}
 use lib.Dec.{ltb}
-use Rattle.record.specs.declared.Field.{Field}
 use Rattle.record.specs.declared.codes.Code.{Code}
 use Rattle.record.specs.declared.codes.Code.the-variants as code
 use Rattle.record.specs.Choice.{choose}
-use Rattle.record.specs.Value.{held}
 use Rattle.record.specs.Codes.{codeOf}
-use Rattle.record.specs.Layout.{layout, positionIn, Record as Table}
 use Rattle.nesting.specs.Division.{Record}
+pub use Rattle.tables.specs.Kind.{kind}
 use Rattle.tables.specs.Tables.{member}
-
--- the fields of a DT that make its kind: 004's 78 to 86, positions 23 to 54 (02 W1)
-unfoldable pub kindFields : List Field
-kindFields = map (positionIn (layout Table.Account)) (78 ∷ 79 ∷ 80 ∷ 81 ∷ 82 ∷ 83 ∷ 84 ∷ 85 ∷ 86 ∷ [])
-
--- what fields of a record hold, side by side
-unfoldable pub heldBy : Record → List Field → List ℕ
-heldBy t [] = []
-heldBy t (f ∷ fs) = held t f ++ heldBy t fs
-
--- the kind of a DT; an all-blank one is a kind
-unfoldable pub kind : Record → List ℕ
-kind t = heldBy t kindFields
 
 -- a DT (004 section 1.2)
 unfoldable pub isAccount : Code → Bool

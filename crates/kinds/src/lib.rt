@@ -1,9 +1,9 @@
 // The kinds of TAS/BETC of a batch (02 W1; 004 section 2.5): whether its DT have more than 1,000 different ones.
-use record::Field;
 use record::Line;
 use record::codes::Code;
 use record::codes::code_bytes;
 use record::codes::code_of;
+use tables::Key;
 use tables::enter;
 ghost use mathlib.Core.Path.{_≡_};
 ghost use Prim.Native.Nat.{_+_, _*_, _/_, _<_, _≤_};
@@ -12,18 +12,13 @@ ghost use Rattle.record.specs.Choice.{choose};
 ghost use Rattle.record.specs.Value.{seen};
 ghost use Rattle.record.specs.Codes.{codeOf};
 ghost use Rattle.nesting.specs.Records.{cut, recordAt};
+ghost use Rattle.tables.specs.declared.Key.the-variants.{Kind};
 ghost use Rattle.tables.specs.Tables.{Stands, Tabled};
 ghost use Rattle.kinds.specs.Kinds.{isAccount, kinds, crowded};
-ghost use Rattle.kinds.specs.Counting.{stretch, counted, tableCounted};
+ghost use Rattle.kinds.specs.Counting.{counted, tableCounted};
 
 // The kinds that a batch may have.
 pub const MOST: usize = 1000;
-
-// Where a DT's kind stands: 004's fields 78 to 86, side by side.
-const KIND: Field = Field {
-    start: 23,
-    width: 32,
-};
 
 // The code is DT.
 fn is_account(code: Code) -> bool
@@ -62,14 +57,14 @@ fn with_kind(known: bool, before: usize) -> usize
 
 // The kinds so far, with the record at the place: a DT of a kind that the table lacks counts, and is entered.
 fn count(file: &[u8], first: Line, place: usize, table: &mut [u16], kinds: usize) -> usize
-    requires { ⌜ Tabled (first .number) stretch (seen first (now file)) (now table) kinds × Stands (first .number) place (now file) × (place < 65536) × (kinds < length (now table)) ⌝ }
+    requires { ⌜ Tabled (first .number) Kind (seen first (now file)) (now table) kinds × Stands (first .number) place (now file) × (place < 65536) × (kinds < length (now table)) ⌝ }
     ensures answer { λ r. ⌜ r ≡ counted (first .number) (seen first (now (file .entry))) (now (table .entry)) kinds place ⌝ }
     ensures after { λ r. ⌜ now (table .exit) ≡ tableCounted (first .number) (seen first (now (file .entry))) (now (table .entry)) kinds place ⌝ }
 {
     if !has_kind(file, first, place) {
         return kinds;
     }
-    let entry = enter(file, first, place, KIND, table, kinds);
+    let entry = enter(file, first, place, Key::Kind, table, kinds);
     with_kind(entry.known, kinds)
 }
 

@@ -11,7 +11,7 @@ use lib.Seq.{drop-cons}
 use Rattle.record.specs.declared.Field.{Field}
 use Rattle.record.specs.declared.Order.{Order}
 use Rattle.record.specs.declared.Order.the-variants.{Before, Same, After}
-use Rattle.record.specs.Choice.{_or_}
+use Rattle.record.specs.Choice.{_or_, choose}
 use Rattle.page.specs.CodePage.{shown}
 use Rattle.record.specs.Value.{Has, held}
 use Rattle.record.specs.Tests.{alike}
@@ -32,38 +32,52 @@ unfolding isAfter
 below x y xs ys h = rw (before x y xs ys h)
 
 -- what is left from i on decides
-module _ (rec : List ℕ) (ascii : Bool) (f : Field) (w : Has rec f) (ys : List ℕ) (n : length ys ≡ f .width) (i : ℕ) where
-  module _ (h : i < f .width) (x y : ℕ) (e : x ≡ getD (held (shown ascii rec) f) i 0) (g : y ≡ getD ys i 0) (l : Level (held (shown ascii rec) f) ys i) where
-    long : i < length (held (shown ascii rec) f)
-    long = omega (arith, held-length ascii rec f w)
-
-    pub after-more : y < x → true ≡ isAfter (order (held (shown ascii rec) f) ys)
+module _ (xs ys : List ℕ) (n : length ys ≡ length xs) (i : ℕ) (l : Level xs ys i) where
+  module _ (h : i < length xs) where
+    pub after-more : getD ys i 0 < getD xs i 0 → true ≡ isAfter (order xs ys)
     unfolding Level
     after-more t =
-        let a = long in
         let b : i < length ys = omega arith in
-        sym (ap isAfter l ∙ rw (drop-cons (held (shown ascii rec) f) i 0, drop-cons ys i 0) (above _ _ _ _ (omega arith)))
+        sym (ap isAfter l ∙ rw (drop-cons xs i 0, drop-cons ys i 0) (above _ _ _ _ t))
 
-    pub after-less : x < y → false ≡ isAfter (order (held (shown ascii rec) f) ys)
+    pub after-less : getD xs i 0 < getD ys i 0 → false ≡ isAfter (order xs ys)
     unfolding Level
     after-less t =
-        let a = long in
         let b : i < length ys = omega arith in
-        sym (ap isAfter l ∙ rw (drop-cons (held (shown ascii rec) f) i 0, drop-cons ys i 0) (below _ _ _ _ (omega arith)))
+        sym (ap isAfter l ∙ rw (drop-cons xs i 0, drop-cons ys i 0) (below _ _ _ _ t))
 
-    pub after-next : x ≤ y → y ≤ x → Level (held (shown ascii rec) f) ys (i + 1)
+    pub after-next : getD xs i 0 ≤ getD ys i 0 → getD ys i 0 ≤ getD xs i 0 → Level xs ys (i + 1)
     unfolding Level
     after-next t u =
-        let a = long in
         let b : i < length ys = omega arith in
-        l ∙ rw (add-one, drop-cons (held (shown ascii rec) f) i 0, drop-cons ys i 0) (level _ _ _ _ (omega arith) (omega arith))
+        l ∙ rw (add-one, drop-cons xs i 0, drop-cons ys i 0) (level _ _ _ _ t u)
 
-  pub after-end : f .width ≤ i → Level (held (shown ascii rec) f) ys i → false ≡ isAfter (order (held (shown ascii rec) f) ys)
+  pub after-end : length xs ≤ i → false ≡ isAfter (order xs ys)
   unfolding Level order isAfter
-  after-end h l =
-      let a : length (held (shown ascii rec) f) ≤ i = omega (arith, held-length ascii rec f w) in
+  after-end h =
       let b : length ys ≤ i = omega arith in
-      sym (ap isAfter l ∙ rw (drop-of-length-le (held (shown ascii rec) f), drop-of-length-le ys))
+      sym (ap isAfter l ∙ rw (drop-of-length-le xs, drop-of-length-le ys))
+
+-- a part that is empty or a value, and as long as the value, is the value
+part-whole : (b : Bool) (xs part : List ℕ) → part ≡ choose b [] xs → length part ≡ length xs → part ≡ xs
+unfolding choose
+part-whole true [] part e n = e
+part-whole true (x ∷ xs) part e n = absurd (omega (arith, ap length e))
+part-whole false xs part e n = e
+
+-- what a field holds, read in its part or in a copy
+module _ (ascii : Bool) (rec : List ℕ) (f : Field) (greatest : List ℕ) where
+  pub copy-wide : (copy : List ℕ) → Has rec f → length greatest ≡ f .width → copy ≡ held (shown ascii rec) f → length greatest ≡ length copy
+  copy-wide copy w n e = n ∙ sym (ap length e ∙ held-length ascii rec f w)
+
+  module _ (r : Bool) where
+    pub part-after : (b : Bool) (part : List ℕ) → Has rec f → part ≡ choose b [] (held (shown ascii rec) f) → length part ≡ f .width → r ≡ isAfter (order part greatest)
+        → r ≡ isAfter (order (held (shown ascii rec) f) greatest)
+    part-after b part w e n q =
+        q ∙ ap (λ (xs : List ℕ). isAfter (order xs greatest)) (part-whole b _ part e (n ∙ sym (held-length ascii rec f w)))
+
+    pub copy-after : (copy : List ℕ) → copy ≡ held (shown ascii rec) f → r ≡ isAfter (order copy greatest) → r ≡ isAfter (order (held (shown ascii rec) f) greatest)
+    copy-after copy e q = q ∙ ap (λ (xs : List ℕ). isAfter (order xs greatest)) e
 
 -- the order that the test tells
 not-after : (o : Order) → isAfter o ≡ false → o ≡ After → ⊥

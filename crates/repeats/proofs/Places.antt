@@ -39,6 +39,11 @@ unfolding numbering
 number-end Payments = omega arith
 number-end Batches = omega arith
 
+number-width : (sort : Sort) → numbering sort .width ≤ 20
+unfolding numbering
+number-width Payments = omega arith
+number-width Batches = omega arith
+
 module _ (sort : Sort) (f : Field) (e : f ≡ numbering sort) where
   pub field-start : 1 ≤ f .start
   field-start = rw e (number-start sort)
@@ -48,6 +53,9 @@ module _ (sort : Sort) (f : Field) (e : f ≡ numbering sort) where
 
   pub field-within : f .start + f .width ≤ 851
   field-within = rw e (number-end sort)
+
+  pub field-few : f .width ≤ 20
+  field-few = rw e (number-width sort)
 
   pub as-wide : (greatest : List ℕ) → length greatest ≡ numbering sort .width → length greatest ≡ f .width
   as-wide greatest h = rw e h

@@ -13,6 +13,7 @@ use Rattle.record.specs.Choice.{_and_, choose}
 use Rattle.record.specs.Value.{held}
 use Rattle.nesting.specs.Records.{cut, recordAt}
 use Rattle.tables.specs.declared.Entry.{Entry}
+use Rattle.tables.specs.declared.Key.the-variants.{Value}
 use Rattle.tables.specs.Tables.{Stands, Tabled, member, isKnown, isNew, entryOf, tableAfter}
 use Rattle.tables.proofs.Tables.{Holds, member-again, holds-none, known-is, holds-known, holds-new, holds-full, count-known, count-new, count-full, after-length}
 use Rattle.repeats.specs.declared.Sort.{Sort}
@@ -24,17 +25,18 @@ use Rattle.repeats.proofs.Ranges.{numbers-more}
 -- what came of the visit: the record is of another sort, the table holds its number, it was entered, or it found no room
 data Went (sort : Sort) (first : ℕ) (bytes table : List ℕ) (count place next : ℕ) (v : Visited) (after : List ℕ) : Type 0 where
   other : isOf sort (recordAt first place bytes) ≡ false → v .count ≡ count → v .next ≡ next → after ≡ table → Went sort first bytes table count place next v after
-  met : isOf sort (recordAt first place bytes) ≡ true → entryOf first (numbering sort) bytes table count place .known ≡ true
-      → v .count ≡ entryOf first (numbering sort) bytes table count place .count → v .next ≡ next → after ≡ tableAfter first (numbering sort) bytes table count place
+  met : isOf sort (recordAt first place bytes) ≡ true → entryOf first (Value (numbering sort)) bytes table count place .known ≡ true
+      → v .count ≡ entryOf first (Value (numbering sort)) bytes table count place .count → v .next ≡ next → after ≡ tableAfter first (Value (numbering sort)) bytes table count place
       → Went sort first bytes table count place next v after
-  entered : isOf sort (recordAt first place bytes) ≡ true → entryOf first (numbering sort) bytes table count place .known ≡ false → count < length table
-      → v .count ≡ entryOf first (numbering sort) bytes table count place .count → v .next ≡ next → after ≡ tableAfter first (numbering sort) bytes table count place
+  entered : isOf sort (recordAt first place bytes) ≡ true → entryOf first (Value (numbering sort)) bytes table count place .known ≡ false → count < length table
+      → v .count ≡ entryOf first (Value (numbering sort)) bytes table count place .count → v .next ≡ next → after ≡ tableAfter first (Value (numbering sort)) bytes table count place
       → Went sort first bytes table count place next v after
-  left : isOf sort (recordAt first place bytes) ≡ true → entryOf first (numbering sort) bytes table count place .known ≡ false → length table ≤ count
-      → v .count ≡ entryOf first (numbering sort) bytes table count place .count → v .next ≡ lesser next place → after ≡ tableAfter first (numbering sort) bytes table count place
+  left : isOf sort (recordAt first place bytes) ≡ true → entryOf first (Value (numbering sort)) bytes table count place .known ≡ false → length table ≤ count
+      → v .count ≡ entryOf first (Value (numbering sort)) bytes table count place .count → v .next ≡ lesser next place → after ≡ tableAfter first (Value (numbering sort)) bytes table count place
       → Went sort first bytes table count place next v after
 
-pub tabled-as : (sort : Sort) (field : Field) (first : ℕ) (bytes table : List ℕ) (count : ℕ) → field ≡ numbering sort → Tabled first (numbering sort) bytes table count → Tabled first field bytes table count
+pub tabled-as : (sort : Sort) (field : Field) (first : ℕ) (bytes table : List ℕ) (count : ℕ) → field ≡ numbering sort → Tabled first (Value (numbering sort)) bytes table count
+    → Tabled first (Value field) bytes table count
 tabled-as sort field first bytes table count i t = rw i t
 
 module _ (sort : Sort) (first : ℕ) (bytes table : List ℕ) (count place next : ℕ) where
@@ -48,17 +50,17 @@ module _ (sort : Sort) (first : ℕ) (bytes table : List ℕ) (count place next 
   table-other o = sym (rw o)
 
   module _ (field : Field) (i : field ≡ numbering sort) (o : isOf sort (recordAt first place bytes) ≡ true) where
-    pub table-own : (after : List ℕ) → after ≡ tableAfter first field bytes table count place → after ≡ tableVisited sort first bytes table count place
+    pub table-own : (after : List ℕ) → after ≡ tableAfter first (Value field) bytes table count place → after ≡ tableVisited sort first bytes table count place
     unfolding tableVisited choose
     table-own after a = rw (o, ← i) a
 
-    module _ (e : Entry) (q : e ≡ entryOf first field bytes table count place) where
+    module _ (e : Entry) (q : e ≡ entryOf first (Value field) bytes table count place) where
       -- what the entry says of the tests
-      known-told : e .known ≡ isKnown first (numbering sort) bytes table count place
+      known-told : e .known ≡ isKnown first (Value (numbering sort)) bytes table count place
       unfolding entryOf
       known-told = ap (λ (x : Entry). x .known) q ∙ rw i
 
-      count-told : e .count ≡ choose (isNew first (numbering sort) bytes table count place) (count + 1) count
+      count-told : e .count ≡ choose (isNew first (Value (numbering sort)) bytes table count place) (count + 1) count
       unfolding entryOf
       count-told = ap (λ (x : Entry). x .count) q ∙ rw i
 
@@ -80,14 +82,14 @@ module _ (sort : Sort) (first : ℕ) (bytes table : List ℕ) (count place next 
         pub visit-new : count < e .count → record { own = true; known = false; count = e .count; next = next } ≡ visited sort first bytes table count place next
         unfolding visited isLeftOut _and_ choose
         visit-new h =
-            let f = grows (isNew first (numbering sort) bytes table count place) count-told h in
+            let f = grows (isNew first (Value (numbering sort)) bytes table count place) count-told h in
             let g = sym known-told ∙ k in
             rw (o, g, f, q, i)
 
         without : (n : ℕ) → e .count ≤ count → n ≡ lesser next place → record { own = true; known = false; count = count; next = n } ≡ visited sort first bytes table count place next
         unfolding visited isLeftOut entryOf _and_ choose
         without n h l =
-            let f = stays (isNew first (numbering sort) bytes table count place) count-told h in
+            let f = stays (isNew first (Value (numbering sort)) bytes table count place) count-told h in
             let g = sym known-told ∙ k in
             rw (o, g, f, l)
 
@@ -99,7 +101,7 @@ module _ (sort : Sort) (first : ℕ) (bytes table : List ℕ) (count place next 
 
   -- and what they say
   module _ (v : Visited) (q : v ≡ visited sort first bytes table count place next) (after : List ℕ) (a : after ≡ tableVisited sort first bytes table count place) where
-    went-by : (o k r : Bool) → isOf sort (recordAt first place bytes) ≡ o → isKnown first (numbering sort) bytes table count place ≡ k → ltb count (length table) ≡ r
+    went-by : (o k r : Bool) → isOf sort (recordAt first place bytes) ≡ o → isKnown first (Value (numbering sort)) bytes table count place ≡ k → ltb count (length table) ≡ r
         → Went sort first bytes table count place next v after
     unfolding visited tableVisited isLeftOut entryOf isNew _and_ choose
     went-by false k r e f g = other e (rw (q, e)) (rw (q, e)) (rw (a, e))
@@ -113,7 +115,7 @@ module _ (sort : Sort) (first : ℕ) (bytes table : List ℕ) (count place next 
 -- the table holds the numbers of the records from a place on, up to the next to be visited or the first that found no room; there is none before
 -- the limit while the table has room
 pub record Held (sort : Sort) (first : ℕ) (bytes : List ℕ) (from limit place : ℕ) (table : List ℕ) (count next : ℕ) : Type 0 where
-  pub holds : Holds first (numbering sort) bytes table count (numbers sort (between first from (lesser next place) bytes))
+  pub holds : Holds first (Value (numbering sort)) bytes table count (numbers sort (between first from (lesser next place) bytes))
   pub full : next < limit → length table ≤ count
 
 -- the table of a block that begins at a place: it has room, holds no more numbers than records were visited, and none was left out at once
@@ -131,7 +133,7 @@ unfolding numbers cut
 filling-none sort first bytes from limit table r n l =
     let e : limit - (limit - from) - from ≡ 0 = omega arith in
     record {
-      table-held = record { holds = rw e (holds-none first (numbering sort) bytes table (leb-true _ _ n)); full = λ m. absurd (omega arith) };
+      table-held = record { holds = rw e (holds-none first (Value (numbering sort)) bytes table (leb-true _ _ n)); full = λ m. absurd (omega arith) };
       size = refl;
       roomy = ltb-true _ _ r;
       few = omega arith;
@@ -140,7 +142,7 @@ filling-none sort first bytes from limit table r n l =
     }
 
 pub filling-tabled : (room : ℕ) (sort : Sort) (first : ℕ) (bytes : List ℕ) (from limit place : ℕ) (table : List ℕ) (count next : ℕ) → Filling room sort first bytes from limit place table count next
-    → Tabled first (numbering sort) bytes table count
+    → Tabled first (Value (numbering sort)) bytes table count
 filling-tabled room sort first bytes from limit place table count next b = b .table-held .holds .tabled
 
 module _ (room : ℕ) (sort : Sort) (first : ℕ) (bytes : List ℕ) (from limit place : ℕ) (table : List ℕ) (count next : ℕ) (b : Filling room sort first bytes from limit place table count next) (s : Stands first place bytes) where
@@ -172,14 +174,14 @@ module _ (room : ℕ) (sort : Sort) (first : ℕ) (bytes : List ℕ) (from limit
     unfolding visited meets entryOf
     visit-meets =
         ap (λ (x : Visited). x .known) q
-        ∙ ap (λ (b : Bool). isOf sort (recordAt first place bytes) and b) (known-is first (numbering sort) bytes table count these place (h .holds) s _ _ refl refl)
+        ∙ ap (λ (b : Bool). isOf sort (recordAt first place bytes) and b) (known-is first (Value (numbering sort)) bytes table count these place (h .holds) s _ _ refl refl)
 
     module _ (after : List ℕ) (a : after ≡ tableVisited sort first bytes table count place) where
       visit-length : length after ≡ length table
       visit-length = go (went sort first bytes table count place next v q after a)
         where
-          entered-length : after ≡ tableAfter first (numbering sort) bytes table count place → length after ≡ length table
-          entered-length t = after-length first (numbering sort) bytes table count these place (h .holds) s _ after refl t
+          entered-length : after ≡ tableAfter first (Value (numbering sort)) bytes table count place → length after ≡ length table
+          entered-length t = after-length first (Value (numbering sort)) bytes table count these place (h .holds) s _ after refl t
 
           go : Went sort first bytes table count place next v after → length after ≡ length table
           go (other o c n t) = rw t
@@ -192,9 +194,9 @@ module _ (room : ℕ) (sort : Sort) (first : ℕ) (bytes : List ℕ) (from limit
         where
           go : Went sort first bytes table count place next v after → v .count ≤ count + 1
           go (other o c n t) = omega arith
-          go (met o k c n t) = omega (arith, count-known first (numbering sort) bytes table count these place (h .holds) s _ _ refl refl k)
-          go (entered o k r c n t) = omega (arith, count-new first (numbering sort) bytes table count these place (h .holds) s _ _ refl refl k r)
-          go (left o k r c n t) = omega (arith, count-full first (numbering sort) bytes table count these place (h .holds) s _ _ refl refl k r)
+          go (met o k c n t) = omega (arith, count-known first (Value (numbering sort)) bytes table count these place (h .holds) s _ _ refl refl k)
+          go (entered o k r c n t) = omega (arith, count-new first (Value (numbering sort)) bytes table count these place (h .holds) s _ _ refl refl k r)
+          go (left o k r c n t) = omega (arith, count-full first (Value (numbering sort)) bytes table count these place (h .holds) s _ _ refl refl k r)
 
       -- what is left out is so from here on
       next-by : (X : Type 0) → (v .next ≡ next → X) → (length table ≤ count → v .next ≡ lesser next place → X) → X
@@ -259,24 +261,24 @@ module _ (room : ℕ) (sort : Sort) (first : ℕ) (bytes : List ℕ) (from limit
             go (other o c n t) =
                 built count next table c n t (record { holds = rw (same-other _ refl o) (h .holds); full = h .full })
             go (met o k c n t) =
-                let x = holds-known first (numbering sort) bytes table count these place (h .holds) s _ _ refl refl k in
-                let z = count-known first (numbering sort) bytes table count these place (h .holds) s _ _ refl refl k in
-                let y = known-is first (numbering sort) bytes table count these place (h .holds) s _ _ refl refl in
-                let w = after-length first (numbering sort) bytes table count these place (h .holds) s _ _ refl refl in
+                let x = holds-known first (Value (numbering sort)) bytes table count these place (h .holds) s _ _ refl refl k in
+                let z = count-known first (Value (numbering sort)) bytes table count these place (h .holds) s _ _ refl refl k in
+                let y = known-is first (Value (numbering sort)) bytes table count these place (h .holds) s _ _ refl refl in
+                let w = after-length first (Value (numbering sort)) bytes table count these place (h .holds) s _ _ refl refl in
                 built _ next _ c n t (record {
                   holds = record { tabled = x .tabled; same = λ i. x .same i ∙ met-again _ refl o (sym y ∙ k) i };
                   full = λ m. rw (w, z) (h .full m);
                 })
             go (entered o k r c n t) =
-                let x = holds-new first (numbering sort) bytes table count these place (h .holds) s _ _ refl refl k r in
+                let x = holds-new first (Value (numbering sort)) bytes table count these place (h .holds) s _ _ refl refl k r in
                 built _ next _ c n t (record {
                   holds = rw (← with-new o r) x;
                   full = λ m. absurd (let w = h .full m in omega arith);
                 })
             go (left o k r c n t) =
-                let x = holds-full first (numbering sort) bytes table count these place (h .holds) s _ _ refl refl k r in
-                let z = count-full first (numbering sort) bytes table count these place (h .holds) s _ _ refl refl k r in
-                let w = after-length first (numbering sort) bytes table count these place (h .holds) s _ _ refl refl in
+                let x = holds-full first (Value (numbering sort)) bytes table count these place (h .holds) s _ _ refl refl k r in
+                let z = count-full first (Value (numbering sort)) bytes table count these place (h .holds) s _ _ refl refl k r in
+                let w = after-length first (Value (numbering sort)) bytes table count these place (h .holds) s _ _ refl refl in
                 built _ (lesser next place) _ c n t (record { holds = rw left-same x; full = λ m. rw (w, z) r })
 
         pub filling-next : Filling room sort first bytes from limit (place + 1) after (v .count) (v .next)

@@ -8,6 +8,7 @@ use Rattle.record.specs.Choice.{_and_, choose}
 use Rattle.record.specs.Value.{held}
 use Rattle.nesting.specs.Division.{Record}
 use Rattle.nesting.specs.Records.{cut, recordAt}
+use Rattle.tables.specs.declared.Key.the-variants.{Value}
 use Rattle.tables.specs.Tables.{member, isKnown, isNew, entryOf, tableAfter}
 use Rattle.repeats.specs.declared.Sort.{Sort}
 use Rattle.repeats.specs.declared.Sort.the-variants.{Payments}
@@ -31,21 +32,21 @@ module _ (sort : Sort) (first : ℕ) (bytes table : List ℕ) (count place : ℕ
   -- the record is of the sort, and the table neither holds its number nor has room for it
   unfoldable pub isLeftOut : Bool
   isLeftOut =
-      isOf sort (recordAt first place bytes) and not (isKnown first (numbering sort) bytes table count place) and not (isNew first (numbering sort) bytes table count place)
+      isOf sort (recordAt first place bytes) and not (isKnown first (Value (numbering sort)) bytes table count place) and not (isNew first (Value (numbering sort)) bytes table count place)
 
   -- what is known after the record: whether it is of the sort, whether the table holds its number, how many places it holds, and the first
   -- record that was left out
   unfoldable pub visited : ℕ → Visited
   visited next = record {
     own = isOf sort (recordAt first place bytes);
-    known = isOf sort (recordAt first place bytes) and isKnown first (numbering sort) bytes table count place;
-    count = choose (isOf sort (recordAt first place bytes)) (entryOf first (numbering sort) bytes table count place .count) count;
+    known = isOf sort (recordAt first place bytes) and isKnown first (Value (numbering sort)) bytes table count place;
+    count = choose (isOf sort (recordAt first place bytes)) (entryOf first (Value (numbering sort)) bytes table count place .count) count;
     next = choose isLeftOut (lesser next place) next;
   }
 
   -- the table after it
   unfoldable pub tableVisited : List ℕ
-  tableVisited = choose (isOf sort (recordAt first place bytes)) (tableAfter first (numbering sort) bytes table count place) table
+  tableVisited = choose (isOf sort (recordAt first place bytes)) (tableAfter first (Value (numbering sort)) bytes table count place) table
 
 -- a block that begins at `from`: the first place before the best at which a detail has the ID of an earlier one of the block, or the best; the
 -- block reaches up to `next`

@@ -5,6 +5,7 @@ use crate::Sort;
 use crate::walk::is_of;
 use crate::walk::number_field;
 use record::Line;
+use tables::Key;
 use tables::enter;
 ghost use mathlib.Core.Path.{_≡_};
 ghost use mathlib.Core.List.{[]};
@@ -12,6 +13,7 @@ ghost use Prim.Native.Nat.{_*_, _/_, _<_, _≤_};
 ghost use lib.ListN.{length};
 ghost use Rattle.record.specs.Value.{seen};
 ghost use Rattle.nesting.specs.Records.{cut};
+ghost use Rattle.tables.specs.declared.Key.the-variants.{Value};
 ghost use Rattle.tables.specs.Tables.{Stands, Tabled};
 ghost use Rattle.repeats.specs.declared.Sort.the-variants.{Payments};
 ghost use Rattle.repeats.specs.Repeats.{numbering, firstRepeat};
@@ -45,7 +47,7 @@ pub(crate) fn visit(
     count: usize,
     next: usize,
 ) -> Visited
-    requires { ⌜ Tabled (first .number) (numbering sort) (seen first (now file)) (now table) count × Stands (first .number) place (now file) × (place < 65536) ⌝ }
+    requires { ⌜ Tabled (first .number) (Value (numbering sort)) (seen first (now file)) (now table) count × Stands (first .number) place (now file) × (place < 65536) ⌝ }
     ensures answer { λ r. ⌜ r ≡ visited sort (first .number) (seen first (now (file .entry))) (now (table .entry)) count place next ⌝ }
     ensures after { λ r. ⌜ now (table .exit) ≡ tableVisited sort (first .number) (seen first (now (file .entry))) (now (table .entry)) count place ⌝ }
 {
@@ -58,7 +60,7 @@ pub(crate) fn visit(
         };
     }
     let field = number_field(sort);
-    let entry = enter(file, first, place, field, table, count);
+    let entry = enter(file, first, place, Key::Value(field), table, count);
     if entry.known {
         return Visited {
             own: true,

@@ -7,6 +7,7 @@ use record::codes::has_header;
 use record::layout::PAYMENT_ID;
 use record::layout::SCHEDULE_NUMBER;
 ghost use mathlib.Core.Path.{_≡_};
+ghost use Prim.Native.Nat.{_≤_};
 ghost use lib.ListN.{length};
 ghost use Rattle.record.specs.Choice.{_and_};
 ghost use Rattle.record.specs.Value.{Has, seen, held};
@@ -88,15 +89,14 @@ pub(crate) fn is_repeated(file: &[u8], first: Line, place: usize, sort: Sort) ->
     false
 }
 
-// What the field holds stands after the greatest: the first byte that differs decides.
-pub(crate) fn stands_after(rec: &[u8], line: Line, field: Field, greatest: &[u8]) -> bool
-    requires { ⌜ Has (now rec) field × (length (now greatest) ≡ field .width) ⌝ }
-    ensures { λ r. ⌜ r ≡ isAfter (order (held (seen line (now (rec .entry))) field) (now (greatest .entry))) ⌝ }
+// The number stands after the greatest: the first byte that differs decides.
+fn is_above(number: &[u8], greatest: &[u8]) -> bool
+    requires { ⌜ length (now greatest) ≡ length (now number) ⌝ }
+    ensures { λ r. ⌜ r ≡ isAfter (order (now (number .entry)) (now (greatest .entry))) ⌝ }
 {
-    let width = field.width;
     let mut i: usize = 0;
-    while i < width {
-        let byte = record::part_byte(rec, line, field, i);
+    while i < number.len() {
+        let byte = number[i];
         let other = greatest[i];
         if other < byte {
             return true;
@@ -107,6 +107,22 @@ pub(crate) fn stands_after(rec: &[u8], line: Line, field: Field, greatest: &[u8]
         i += 1;
     }
     false
+}
+
+// What the field holds stands after the greatest. It is read where it stands if it can be.
+pub(crate) fn stands_after(rec: &[u8], line: Line, field: Field, greatest: &[u8]) -> bool
+    requires { ⌜ Has (now rec) field × (field .width ≤ 20) × (length (now greatest) ≡ field .width) ⌝ }
+    ensures { λ r. ⌜ r ≡ isAfter (order (held (seen line (now (rec .entry))) field) (now (greatest .entry))) ⌝ }
+{
+    let width = field.width;
+    let part = record::field_part(rec, line, field);
+    if part.len() == width {
+        return is_above(part, greatest);
+    }
+    let mut copy = [0u8; 20];
+    let own = &mut copy[..width];
+    record::copy_field(rec, line, field, own);
+    is_above(own, greatest)
 }
 
 // The number of the record at the place stands after the greatest.

@@ -1,4 +1,5 @@
 pub mod Values
+mod Comparing
 mod Inserts
 mod Seeks
 mod Enters

@@ -1,6 +1,6 @@
 -- A search in a table: the values by their places, and where a record's value stands among them.
 -- Assumes nothing.
-use mathlib.Core.Path.{_≡_, refl, sym, ap, _∙_}
+use mathlib.Core.Path.{_≡_, refl, sym, ap, subst, _∙_}
 use mathlib.Core.Bool.{Bool, true, false}
 use mathlib.Core.List.{List, [], _∷_, _++_}
 use mathlib.Core.Logic.{⊎-elim}
@@ -17,56 +17,74 @@ use Rattle.record.specs.Value.{held}
 use Rattle.record.specs.Ordering.{order, isBefore}
 use Rattle.page.proofs.Shown.{shown-length}
 use Rattle.record.proofs.Bracket.{Bracket, middle, raised, lowered, same-is, same-below, same-above, end-above, end-none}
-use Rattle.nesting.proofs.Cuts.{recordFrom, from-place}
-use Rattle.tables.specs.Tables.{Stands, Tabled, valueAt, valuesAt, kept, member, rank}
+use Rattle.nesting.proofs.Cuts.{bytesFrom, recordFrom, from-place, from-length}
+use Rattle.tables.specs.declared.Key.{Key}
+use Rattle.tables.specs.declared.Key.the-variants.{Value, Kind}
+use Rattle.tables.specs.Kind.{kind}
+use Rattle.tables.specs.Tables.{Stands, InRecord, Tabled, valueAt, valuesAt, kept, member, rank}
 use Rattle.tables.proofs.Values.{Parted, parted-rank, member-at, member-none, after-tells, same-tells}
 
--- how two values stand to each other, as the code reads them
-pub ordered-at : (ascii : Bool) (first place other : ℕ) (field : Field) (xs : List ℕ) (r : Order)
-    → r ≡ order (held (recordFrom ascii xs (place * 850)) field) (held (recordFrom ascii xs (other * 850)) field)
-    → r ≡ order (valueAt first field (shown ascii xs) place) (valueAt first field (shown ascii xs) other)
-ordered-at ascii first place other field xs r h = h ∙ rw (from-place ascii first place xs, from-place ascii first other xs)
+-- the field of a key lies in a record, as the code takes it
+module _ (key : Key) (field : Field) (e : key ≡ Value field) (i : InRecord key) where
+  inside : InRecord (Value field)
+  inside = subst InRecord e i
 
-module _ (first : ℕ) (field : Field) (bytes : List ℕ) where
-  values-length : (ps : List ℕ) → length (valuesAt first field bytes ps) ≡ length ps
+  pub value-start : 1 ≤ field .start
+  value-start = inside .0
+
+  pub value-end : (place : ℕ) (xs : List ℕ) → place * 850 + 850 ≤ length xs → field .start + field .width ≤ length (bytesFrom xs (place * 850)) + 1
+  value-end place xs h = rw (from-length xs (place * 850) h) (inside .1)
+
+-- how two values stand to each other, as the code reads them
+module _ (ascii : Bool) (first place other : ℕ) (key : Key) (xs : List ℕ) (r : Order) where
+  pub ordered-values : (field : Field) → key ≡ Value field → r ≡ order (held (recordFrom ascii xs (place * 850)) field) (held (recordFrom ascii xs (other * 850)) field)
+      → r ≡ order (valueAt first key (shown ascii xs) place) (valueAt first key (shown ascii xs) other)
+  ordered-values field e h = h ∙ rw (e, from-place ascii first place xs, from-place ascii first other xs)
+
+  pub ordered-kinds : key ≡ Kind → r ≡ order (kind (recordFrom ascii xs (place * 850))) (kind (recordFrom ascii xs (other * 850)))
+      → r ≡ order (valueAt first key (shown ascii xs) place) (valueAt first key (shown ascii xs) other)
+  ordered-kinds e h = h ∙ rw (e, from-place ascii first place xs, from-place ascii first other xs)
+
+module _ (first : ℕ) (key : Key) (bytes : List ℕ) where
+  values-length : (ps : List ℕ) → length (valuesAt first key bytes ps) ≡ length ps
   unfolding valuesAt
   values-length [] = refl
   values-length (p ∷ ps) = ap suc (values-length ps)
 
-  values-at : (ps : List ℕ) (j : ℕ) → j < length ps → getD (valuesAt first field bytes ps) j [] ≡ valueAt first field bytes (getD ps j 0)
+  values-at : (ps : List ℕ) (j : ℕ) → j < length ps → getD (valuesAt first key bytes ps) j [] ≡ valueAt first key bytes (getD ps j 0)
   unfolding valuesAt
   values-at [] j h = absurd (omega arith)
   values-at (p ∷ ps) zero h = refl
   values-at (p ∷ ps) (suc j) h = values-at ps j (omega arith)
 
-  pub values-append : (ps qs : List ℕ) → valuesAt first field bytes (ps ++ qs) ≡ valuesAt first field bytes ps ++ valuesAt first field bytes qs
+  pub values-append : (ps qs : List ℕ) → valuesAt first key bytes (ps ++ qs) ≡ valuesAt first key bytes ps ++ valuesAt first key bytes qs
   unfolding valuesAt
   values-append [] qs = refl
-  values-append (p ∷ ps) qs = ap (λ (vs : List (List ℕ)). valueAt first field bytes p ∷ vs) (values-append ps qs)
+  values-append (p ∷ ps) qs = ap (λ (vs : List (List ℕ)). valueAt first key bytes p ∷ vs) (values-append ps qs)
 
   -- the value at seat j of a table
   abbrev pub keyIn : List ℕ → ℕ → List ℕ
-  keyIn table j = valueAt first field bytes (getD table j 0)
+  keyIn table j = valueAt first key bytes (getD table j 0)
 
   module _ (table : List ℕ) (count : ℕ) (s : count ≤ length table) where
-    pub kept-length : length (kept first field bytes table count) ≡ count
+    pub kept-length : length (kept first key bytes table count) ≡ count
     kept-length = values-length (take count table) ∙ length-take-le count table s
 
-    pub kept-at : (j : ℕ) → j < count → getD (kept first field bytes table count) j [] ≡ keyIn table j
+    pub kept-at : (j : ℕ) → j < count → getD (kept first key bytes table count) j [] ≡ keyIn table j
     kept-at j h =
         values-at (take count table) j (omega (arith, length-take-le count table s))
-        ∙ ap (λ (p : ℕ). valueAt first field bytes p) (getD-take count table j 0 h)
+        ∙ ap (λ (p : ℕ). valueAt first key bytes p) (getD-take count table j 0 h)
 
   -- what a search for the value of a record knows
   abbrev pub Sought : List ℕ → ℕ → ℕ → ℕ → ℕ → Type 0
-  Sought table count place low high = Bracket (keyIn table) count (valueAt first field bytes place) low high
+  Sought table count place low high = Bracket (keyIn table) count (valueAt first key bytes place) low high
 
-  module _ (table : List ℕ) (count place : ℕ) (t : Tabled first field bytes table count) where
+  module _ (table : List ℕ) (count place : ℕ) (t : Tabled first key bytes table count) where
     abbrev x : List ℕ
-    x = valueAt first field bytes place
+    x = valueAt first key bytes place
 
     -- by the keys of a table
-    parted-by : (m : ℕ) → m ≤ count → ((j : ℕ) → j < m → order (keyIn table j) x ≡ Before) → ((j : ℕ) → m ≤ j → j < count → isBefore (order (keyIn table j) x) ≡ false) → Parted x (kept first field bytes table count) m
+    parted-by : (m : ℕ) → m ≤ count → ((j : ℕ) → j < m → order (keyIn table j) x ≡ Before) → ((j : ℕ) → m ≤ j → j < count → isBefore (order (keyIn table j) x) ≡ false) → Parted x (kept first key bytes table count) m
     parted-by m h b a = record {
       size = omega (arith, kept-length table count (t .size));
       below = λ j l. rw (kept-at table count (t .size) j (omega arith)) (b j l);
@@ -77,7 +95,7 @@ module _ (first : ℕ) (field : Field) (bytes : List ℕ) where
 
     -- where it meets the value
     module _ (m : ℕ) (h : m < count) (e : order (keyIn table m) x ≡ Same) where
-      taken-rank : m ≡ rank x (kept first field bytes table count)
+      taken-rank : m ≡ rank x (kept first key bytes table count)
       taken-rank =
           parted-rank _ _ _ (parted-by m (omega arith) (same-below (keyIn table) count x (t .ascending) m e h) (λ j l n.
           ⊎-elim
@@ -85,7 +103,7 @@ module _ (first : ℕ) (field : Field) (bytes : List ℕ) where
           (λ (i : m < j). after-tells _ (same-above (keyIn table) count x (t .ascending) m e j i n))
           (eq-or-lt-of-le l)))
 
-      taken-known : true ≡ member x (kept first field bytes table count)
+      taken-known : true ≡ member x (kept first key bytes table count)
       taken-known =
           sym (member-at _ _ m (omega (arith, kept-length table count (t .size))) (kept-at table count (t .size) m h ∙ same-is (keyIn table) count x (t .ascending) m e))
 
@@ -102,27 +120,27 @@ module _ (first : ℕ) (field : Field) (bytes : List ℕ) where
           pub sought-lowered : r ≡ After → Sought table count place low (middle low high)
           sought-lowered q = lowered (keyIn table) count x (t .ascending) (middle low high) low high b (omega arith) (omega arith) (sym e ∙ q)
 
-          pub seat-taken : r ≡ Same → middle low high ≡ rank x (kept first field bytes table count)
+          pub seat-taken : r ≡ Same → middle low high ≡ rank x (kept first key bytes table count)
           seat-taken q = taken-rank (middle low high) (omega (arith, b .inside)) (sym e ∙ q)
 
-          pub value-known : r ≡ Same → true ≡ member x (kept first field bytes table count)
+          pub value-known : r ≡ Same → true ≡ member x (kept first key bytes table count)
           value-known q = taken-known (middle low high) (omega (arith, b .inside)) (sym e ∙ q)
 
       -- nothing is left
       module _ (e : high ≤ low) where
-        pub seat-free : low ≡ rank x (kept first field bytes table count)
+        pub seat-free : low ≡ rank x (kept first key bytes table count)
         seat-free =
             parted-rank _ _ _ (parted-by low (omega (arith, b .ordered, b .inside)) (b .below) (λ j l h. after-tells _ (end-above _ _ _ _ _ b e j l h)))
 
-        pub value-new : false ≡ member x (kept first field bytes table count)
+        pub value-new : false ≡ member x (kept first key bytes table count)
         value-new =
             sym (member-none _ _ (λ j l q.
             let n : j < count = omega (arith, kept-length table count (t .size)) in
             end-none _ _ _ _ _ b e j n (sym (kept-at table count (t .size) j n) ∙ q)))
 
 -- the record that is looked at next stands among the bytes that were sent
-pub next-sent : (ascii : Bool) (first : ℕ) (field : Field) (xs table : List ℕ) (count place : ℕ) → Tabled first field (shown ascii xs) table count
-    → (low high : ℕ) → Sought first field (shown ascii xs) table count place low high → low < high → Stands first (getD table (middle low high) 0) xs
-next-sent ascii first field xs table count place t low high b h =
-    let s = next-stands first field (shown ascii xs) table count place t low high b h in
+pub next-sent : (ascii : Bool) (first : ℕ) (key : Key) (xs table : List ℕ) (count place : ℕ) → Tabled first key (shown ascii xs) table count
+    → (low high : ℕ) → Sought first key (shown ascii xs) table count place low high → low < high → Stands first (getD table (middle low high) 0) xs
+next-sent ascii first key xs table count place t low high b h =
+    let s = next-stands first key (shown ascii xs) table count place t low high b h in
     (omega (arith, s .0, shown-length ascii xs), s .1)

@@ -1,11 +1,10 @@
--- A table of places: records in ascending order of what a field holds, each value once.
+-- A table of places: records in ascending order of a key, what a field holds or a DT's kind, each value once.
 use Prim.Native.Nat.{ℕ, _+_, _-_, _*_, _<_, _≤_}
 use mathlib.Core.Path.{_≡_}
 use mathlib.Core.Bool.{Bool, false, not}
 use mathlib.Core.List.{List, [], _∷_, _++_}
 use lib.Dec.{ltb}
 use lib.ListN.{length, take, drop, getD}
-use Rattle.record.specs.declared.Field.{Field}
 use Rattle.record.specs.declared.Order.the-variants.{Before}
 use Rattle.record.specs.Choice.{_and_, _or_, choose}
 use Rattle.record.specs.Value.{held}
@@ -13,14 +12,23 @@ use Rattle.record.specs.Tests.{alike}
 use Rattle.record.specs.Ordering.{order, isBefore}
 use Rattle.nesting.specs.Records.{recordAt}
 use Rattle.tables.specs.declared.Entry.{Entry}
+use Rattle.tables.specs.declared.Key.{Key}
+use Rattle.tables.specs.declared.Key.the-variants.{Value, Kind}
+use Rattle.tables.specs.Kind.{kind}
 
 -- the bytes have a whole record at the place, and its number is small
 abbrev pub Stands : ℕ → ℕ → List ℕ → Type 0
 Stands first place bytes = (place * 850 + 850 ≤ length bytes) × (first + place < 131072)
 
--- the field lies in a record
-abbrev pub InRecord : Field → Type 0
-InRecord field = (1 ≤ field .start) × (field .start + field .width ≤ 851)
+-- the value that a record has by the key
+abbrev pub keyOf : Key → List ℕ → List ℕ
+keyOf (Value field) rec = held rec field
+keyOf Kind rec = kind rec
+
+-- the key's field lies in a record; a kind's do
+abbrev pub InRecord : Key → Type 0
+InRecord (Value field) = (1 ≤ field .start) × (field .start + field .width ≤ 851)
+InRecord Kind = Unit {0}
 
 -- one of these values
 unfoldable pub member : List ℕ → List (List ℕ) → Bool
@@ -36,17 +44,17 @@ rank x (y ∷ ys) = choose (isBefore (order y x)) 1 0 + rank x ys
 unfoldable pub insertedAt : List ℕ → ℕ → ℕ → ℕ → List ℕ
 insertedAt table count seat place = take seat table ++ place ∷ (take (count - seat) (drop seat table) ++ drop (count + 1) table)
 
-module _ (first : ℕ) (field : Field) (bytes : List ℕ) where
-  -- what the field holds in the record at the place; the record at place 0 has the number `first`
+module _ (first : ℕ) (key : Key) (bytes : List ℕ) where
+  -- the value of the record at the place; the record at place 0 has the number `first`
   abbrev pub valueAt : ℕ → List ℕ
-  valueAt place = held (recordAt first place bytes) field
+  valueAt place = keyOf key (recordAt first place bytes)
 
-  -- what it holds in the records at these places
+  -- the values of the records at these places
   unfoldable pub valuesAt : List ℕ → List (List ℕ)
   valuesAt [] = []
   valuesAt (p ∷ ps) = valueAt p ∷ valuesAt ps
 
-  -- the first `count` places of the table are those of whole records, in ascending order of what the field holds
+  -- the first `count` places of the table are those of whole records, in ascending order of their values
   pub record Tabled (table : List ℕ) (count : ℕ) : Type 0 where
     pub size : count ≤ length table
     pub few : length table ≤ 65536

@@ -1,5 +1,6 @@
-// Sorted tables of places: records in ascending order of what a field of theirs holds, each value once. A table is lent, so its size is the
-// caller's.
+// Sorted tables of places: records in ascending order of a key, each value once. A table is lent, so its size is the caller's.
+pub mod kind;
+
 use record::Field;
 use record::Line;
 use record::Order;
@@ -16,16 +17,22 @@ pub struct Entry {
     pub count: usize,
 }
 
+// What a table is ordered by: what a field of the records holds, or the kind of a DT.
+pub enum Key {
+    Value(Field),
+    Kind,
+}
+
 // Where a value stands in a table, or would stand.
 struct Seat {
     at: usize,
     taken: bool,
 }
 
-// How what the field holds in the record at one place stands to what it holds at another.
-fn compare(file: &[u8], first: Line, place: usize, other: usize, field: Field) -> Order
-    requires { ⌜ Stands (first .number) place (now file) × Stands (first .number) other (now file) × InRecord field ⌝ }
-    ensures { λ r. ⌜ r ≡ order (valueAt (first .number) field (seen first (now (file .entry))) place) (valueAt (first .number) field (seen first (now (file .entry))) other) ⌝ }
+// How the value of the record at one place stands to that of the record at another.
+fn compare(file: &[u8], first: Line, place: usize, other: usize, key: Key) -> Order
+    requires { ⌜ Stands (first .number) place (now file) × Stands (first .number) other (now file) × InRecord key ⌝ }
+    ensures { λ r. ⌜ r ≡ order (valueAt (first .number) key (seen first (now (file .entry))) place) (valueAt (first .number) key (seen first (now (file .entry))) other) ⌝ }
 {
     let from = place * 850;
     let to = from + 850;
@@ -34,28 +41,28 @@ fn compare(file: &[u8], first: Line, place: usize, other: usize, field: Field) -
     let end = at + 850;
     let own = first.number + other;
     let ascii = first.ascii;
-    record::fields_order(
-        &file[from..to],
-        Line { number, ascii },
-        field,
-        &file[at..end],
-        Line { number: own, ascii },
-        field,
-    )
+    let line = Line { number, ascii };
+    let other_line = Line { number: own, ascii };
+    let rec = &file[from..to];
+    let other_rec = &file[at..end];
+    match key {
+        Key::Value(field) => record::fields_order(rec, line, field, other_rec, other_line, field),
+        Key::Kind => kind::kind_order(rec, line, other_rec, other_line),
+    }
 }
 
 // Where the record's value stands among the first `count` places of the table: binary search.
-fn seek(file: &[u8], first: Line, place: usize, field: Field, table: &[u16], count: usize) -> Seat
-    requires { ⌜ Tabled (first .number) field (seen first (now file)) (now table) count × Stands (first .number) place (now file) × InRecord field ⌝ }
-    ensures at { λ r. ⌜ r .at ≡ rank (valueAt (first .number) field (seen first (now (file .entry))) place) (kept (first .number) field (seen first (now (file .entry))) (now (table .entry)) count) ⌝ }
-    ensures taken { λ r. ⌜ r .taken ≡ member (valueAt (first .number) field (seen first (now (file .entry))) place) (kept (first .number) field (seen first (now (file .entry))) (now (table .entry)) count) ⌝ }
+fn seek(file: &[u8], first: Line, place: usize, key: Key, table: &[u16], count: usize) -> Seat
+    requires { ⌜ Tabled (first .number) key (seen first (now file)) (now table) count × Stands (first .number) place (now file) × InRecord key ⌝ }
+    ensures at { λ r. ⌜ r .at ≡ rank (valueAt (first .number) key (seen first (now (file .entry))) place) (kept (first .number) key (seen first (now (file .entry))) (now (table .entry)) count) ⌝ }
+    ensures taken { λ r. ⌜ r .taken ≡ member (valueAt (first .number) key (seen first (now (file .entry))) place) (kept (first .number) key (seen first (now (file .entry))) (now (table .entry)) count) ⌝ }
 {
     let mut low: usize = 0;
     let mut high = count;
     while low < high {
         let middle = low + (high - low) / 2;
         let other = table[middle] as usize;
-        match compare(file, first, other, place, field) {
+        match compare(file, first, other, place, key) {
             Order::Before => {
                 low = middle + 1;
             }
@@ -94,15 +101,15 @@ pub fn enter(
     file: &[u8],
     first: Line,
     place: usize,
-    field: Field,
+    key: Key,
     table: &mut [u16],
     count: usize,
 ) -> Entry
-    requires { ⌜ Tabled (first .number) field (seen first (now file)) (now table) count × Stands (first .number) place (now file) × (place < 65536) × InRecord field ⌝ }
-    ensures answer { λ r. ⌜ r ≡ entryOf (first .number) field (seen first (now (file .entry))) (now (table .entry)) count place ⌝ }
-    ensures after { λ r. ⌜ now (table .exit) ≡ tableAfter (first .number) field (seen first (now (file .entry))) (now (table .entry)) count place ⌝ }
+    requires { ⌜ Tabled (first .number) key (seen first (now file)) (now table) count × Stands (first .number) place (now file) × (place < 65536) × InRecord key ⌝ }
+    ensures answer { λ r. ⌜ r ≡ entryOf (first .number) key (seen first (now (file .entry))) (now (table .entry)) count place ⌝ }
+    ensures after { λ r. ⌜ now (table .exit) ≡ tableAfter (first .number) key (seen first (now (file .entry))) (now (table .entry)) count place ⌝ }
 {
-    let seat = seek(file, first, place, field, table, count);
+    let seat = seek(file, first, place, key, table, count);
     if seat.taken {
         return Entry { known: true, count };
     }

@@ -7,10 +7,10 @@ use Rattle.tables.proofs.seek.Statement.{statement}
 use Rattle.tables.proofs.seek.Tie as tie
 
 abbrev Inv-loop : tie.InvT-loop
-Inv-loop file first place field table count low₀ high₀ low high = Sought (first .number) field (seen first file) table count place low high
+Inv-loop file first place key table count low₀ high₀ low high = Sought (first .number) key (seen first file) table count place low high
 
 abbrev μ-loop : tie.MeasureT-loop
-μ-loop file first place field table count low₀ high₀ low high = high - low
+μ-loop file first place key table count low₀ high₀ low high = high - low
 
 loop-holds : tie.Need-loop-holds Inv-loop μ-loop
 loop-holds c = opened _ _ _

@@ -33,13 +33,13 @@ same-length-3 : tie.Need-same-length-3
 same-length-3 c = search needs
 
 returns-4 : tie.Need-returns-4
-returns-4 c = search (needs, visit-left, table-own, reads)
+returns-4 c = (search (needs, visit-left, reads), search (needs, table-own, reads))
 
 same-length-4 : tie.Need-same-length-4
 same-length-4 c = search needs
 
 returns-5 : tie.Need-returns-5
-returns-5 c = search (needs, visit-left-more, table-own, reads)
+returns-5 c = (search (needs, visit-left-more, reads), search (needs, table-own, reads))
 
 pub visit-spec : {M : Type 1} → statement M
 visit-spec =

@@ -1,4 +1,4 @@
-use Rattle.repeats.proofs.Places.{field-start, field-end, after-number, as-wide}
+use Rattle.repeats.proofs.Places.{field-start, field-end, field-few, after-number, as-wide}
 use borrow.Author.Needs.{needs}
 use Rattle.repeats.proofs.walk.is_after.Statement.{statement}
 use Rattle.repeats.proofs.walk.is_after.Tie as tie
@@ -25,7 +25,7 @@ part-stands-after-end : tie.Need-part-stands-after-end
 part-stands-after-end c = search needs
 
 stands-after-requires : tie.Need-stands-after-requires
-stands-after-requires c κs = search (needs, field-start, field-end, as-wide)
+stands-after-requires c κs = search (needs, field-start, field-end, field-few, as-wide)
 
 returns : tie.Need-returns
 returns c = search (needs, after-number)

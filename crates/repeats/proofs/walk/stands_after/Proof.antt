@@ -1,56 +1,43 @@
-use Prim.Native.Nat.{_≤_, _-_}
-use Rattle.record.specs.Value.{seen, held}
-use Rattle.record.proofs.Orders.{Level, level-none}
-use Rattle.repeats.proofs.Greatest.{after-more, after-less, after-next, after-end}
+use mathlib.Core.Path.{sym}
+use lib.Seq.{length-take-le}
+use Rattle.repeats.proofs.Greatest.{part-after, copy-wide, copy-after}
 use borrow.Author.Needs.{needs}
 use Rattle.repeats.proofs.walk.stands_after.Statement.{statement}
 use Rattle.repeats.proofs.walk.stands_after.Tie as tie
 
-abbrev Inv-loop : tie.InvT-loop
-Inv-loop rec line field greatest width i₀ i = (i ≤ width) × Level (held (seen line rec) field) greatest i
+field-part-requires : tie.Need-field-part-requires
+field-part-requires c κs = search needs
 
-abbrev μ-loop : tie.MeasureT-loop
-μ-loop rec line field greatest width i₀ i = width - i
+is-above-requires : tie.Need-is-above-requires
+is-above-requires c κs = search needs
 
-loop-holds : tie.Need-loop-holds Inv-loop μ-loop
-loop-holds c = search (needs, level-none)
+returns : tie.Need-returns
+returns c = search (needs, part-after)
 
-part-byte-requires : tie.Need-part-byte-requires Inv-loop μ-loop
-part-byte-requires c κs = search needs
+array-borrow-prefix-copy : tie.Need-array-borrow-prefix-copy
+array-borrow-prefix-copy c = search needs
 
-shared-slice-read-other : tie.Need-shared-slice-read-other Inv-loop μ-loop
-shared-slice-read-other c = search needs
+slice-aggregate-own : tie.Need-slice-aggregate-own
+slice-aggregate-own c = sym (length-take-le _ _ (search needs))
 
-returns : tie.Need-returns Inv-loop μ-loop
-returns c = search (needs, after-more)
+copy-field-requires : tie.Need-copy-field-requires
+copy-field-requires c κs = (search needs, length-take-le _ _ (search needs))
 
-returns-2 : tie.Need-returns-2 Inv-loop μ-loop
-returns-2 c = search (needs, after-less)
+is-above-requires-2 : tie.Need-is-above-requires-2
+is-above-requires-2 c κs = search (needs, copy-wide)
 
-add-i : tie.Need-add-i Inv-loop μ-loop
-add-i c = search needs
-
-loop-less : tie.Need-loop-less Inv-loop μ-loop
-loop-less c = search needs
-
-loop-again : tie.Need-loop-again Inv-loop μ-loop
-loop-again c = search (needs, after-next)
-
-returns-3 : tie.Need-returns-3 Inv-loop μ-loop
-returns-3 c = search (needs, after-end)
+returns-2 : tie.Need-returns-2
+returns-2 c = search (needs, copy-after)
 
 pub stands-after-spec : {M : Type 1} → statement M
 stands-after-spec =
     tie.close
     (tie.spec
-    Inv-loop
-    μ-loop
-    loop-holds
-    part-byte-requires
-    shared-slice-read-other
+    field-part-requires
+    is-above-requires
     returns
-    returns-2
-    add-i
-    loop-less
-    loop-again
-    returns-3)
+    array-borrow-prefix-copy
+    slice-aggregate-own
+    copy-field-requires
+    is-above-requires-2
+    returns-2)
