@@ -1,9 +1,11 @@
-//! A judge of SRF files, read from document 01 (the rules), 02 (requests W1 and W2), 004 (layouts and values) and the readings. It stands in
+//! A judge of SRF files, read from document 01 (the rules), 02 (requests W1 to W3), 004 (layouts and values) and the readings. It stands in
 //! document 01's order: bytes, nesting, code book, file answers, report, batch reasons. "01 X" cites a section of document 01, "02 Wn" a
-//! request, "004 n" a field.
+//! request, "004 n" a field. Fields stay as they were sent and are corrected (02 W3) where they are read.
 
 use crate::ascii;
+use crate::correct::{self, digits, is_digits, move_left, value, BLANK, ZERO};
 use crate::layout::{self, place, Kind, RECORD};
+use std::borrow::Cow;
 use std::collections::HashSet;
 use std::ops::Range;
 
@@ -23,10 +25,7 @@ pub fn judge(file: &[u8], book: &[u8], report: &mut [u8]) -> u64 {
 
 // ---------------------------------------------------------------- 01 Bytes
 
-const BLANK: u8 = ebcdic(b' ');
 const HYPHEN: u8 = ebcdic(b'-');
-const ZERO: u8 = ebcdic(b'0');
-const NINE: u8 = ebcdic(b'9');
 
 /// 01 Bytes: the code page, as far as the documents' own values need it.
 const fn ebcdic(ascii: u8) -> u8 {
@@ -127,19 +126,24 @@ fn is_zeros(field: &[u8]) -> bool {
     field.iter().all(|&byte| byte == ZERO)
 }
 
-/// The value of a field of digits only; no numeric field but the amounts is wider than 18.
+/// The value of at most 19 digits.
+fn decimal(digits: &[u8]) -> u64 {
+    digits.iter().fold(0, |value, byte| value * 10 + u64::from(byte - ZERO))
+}
+
+/// The value of a number, wherever its digits stand (02 W3); no number but the amounts is wider than 18.
 fn number(field: &[u8]) -> Option<u64> {
-    let digits = field.iter().all(|byte| (ZERO..=NINE).contains(byte));
-    digits.then(|| field.iter().fold(0, |value, byte| value * 10 + u64::from(byte - ZERO)))
+    digits(field).map(decimal)
 }
 
 /// 01 Report splits totals here, and so do the amounts: twenty digits pass 64 bits, ten do not.
 const TEN_TO_10: u128 = 10_000_000_000;
 
-/// The value of an amount of twenty digits (004 9, 24, 87, 96, 100, 105).
+/// The value of an amount of twenty digits once corrected (004 9, 24, 87, 96, 100, 105).
 fn amount(field: &[u8]) -> Option<u128> {
-    let (high, low) = field.split_at(10);
-    Some(u128::from(number(high)?) * TEN_TO_10 + u128::from(number(low)?))
+    let digits = digits(field)?;
+    let (high, low) = digits.split_at(digits.len().saturating_sub(10));
+    Some(u128::from(decimal(high)) * TEN_TO_10 + u128::from(decimal(low)))
 }
 
 // ---------------------------------------------------------------- 01 Nesting
@@ -165,7 +169,7 @@ struct Nesting<'a> {
     stage: Stage,
     /// Of the last batch header.
     letter: u8,
-    /// Of the last detail.
+    /// Of the last detail, without the blanks around it (02 W3).
     payment_id: &'a [u8],
 }
 
@@ -175,7 +179,7 @@ const MOST_IN_PAYMENT: usize = 100;
 impl<'a> Nesting<'a> {
     /// The state after one more record, or None where the records so far begin no legal file.
     fn step(self, record: &'a Raw) -> Option<Self> {
-        let id = &record[place(23)]; // 65, 77 and 91 stand in the same place
+        let id = value(&record[place(23)]); // 65, 77 and 91 stand in the same place
         let own_id = || id == self.payment_id;
         let own_letter = || letter(record) == self.letter;
         let mixes_checks = || (letter(record) == CHECK) != (self.letter == CHECK);
@@ -234,15 +238,17 @@ fn nesting(records: &[Raw]) -> Result<(), usize> {
 
 // ---------------------------------------------------------------- 01 Code book
 
-/// Entries as they stand: a code, and in kinds 2 and 3 a flag after it.
+/// Entries: a code, moved left (02 W3), and in kinds 2 and 3 a flag after it.
+type Entries<'a, const ENTRY: usize> = Cow<'a, [[u8; ENTRY]]>;
+
 struct Book<'a> {
-    input_systems: &'a [[u8; 40]],
-    locations: &'a [[u8; 9]],
-    betcs: &'a [[u8; 9]],
-    payment_types: &'a [[u8; 25]],
-    states: &'a [[u8; 2]],
-    countries: &'a [[u8; 2]],
-    currencies: &'a [[u8; 3]],
+    input_systems: Entries<'a, 40>,
+    locations: Entries<'a, 9>,
+    betcs: Entries<'a, 9>,
+    payment_types: Entries<'a, 25>,
+    states: Entries<'a, 2>,
+    countries: Entries<'a, 2>,
+    currencies: Entries<'a, 3>,
 }
 
 const LONGEST_BOOK: usize = 16_777_216;
@@ -267,12 +273,14 @@ impl<'a> Book<'a> {
     }
 }
 
-/// Takes one section off the rest of the book. A code fills the first `code` bytes of an entry; a flag may follow.
-fn section<'a, const ENTRY: usize>(rest: &mut &'a [u8], kind: u16, code: usize) -> Option<&'a [[u8; ENTRY]]> {
+/// Takes one section off the rest of the book. A code fills the first `code` bytes of an entry; a flag may follow. 02 W3: codes are
+/// corrected before their order is tested.
+fn section<'a, const ENTRY: usize>(rest: &mut &'a [u8], kind: u16, code: usize) -> Option<Entries<'a, ENTRY>> {
     let (length, after) = rest.split_first_chunk()?;
     let (body, after) = after.split_at_checked(u32::from_le_bytes(*length) as usize)?;
     let (stated_kind, body) = body.split_first_chunk()?;
     let (entries, part_of_an_entry) = body.as_chunks();
+    let entries = with_codes_left(entries, code);
     *rest = after;
 
     let sound = u16::from_le_bytes(*stated_kind) == kind
@@ -284,9 +292,20 @@ fn section<'a, const ENTRY: usize>(rest: &mut &'a [u8], kind: u16, code: usize) 
     sound.then_some(entries)
 }
 
-/// The entry with this code; codes ascend.
-fn find<'a, const ENTRY: usize>(section: &'a [[u8; ENTRY]], code: &[u8]) -> Option<&'a [u8; ENTRY]> {
-    let found = section.binary_search_by(|entry| entry[..code.len()].cmp(code));
+/// The entries as they stand, unless a code begins with a blank.
+fn with_codes_left<const ENTRY: usize>(entries: &[[u8; ENTRY]], code: usize) -> Entries<'_, ENTRY> {
+    let mut entries = Cow::Borrowed(entries);
+    if entries.iter().any(|entry| entry[0] == BLANK) {
+        entries.to_mut().iter_mut().for_each(|entry| move_left(&mut entry[..code]));
+    }
+    entries
+}
+
+/// The entry with the code that a field holds; codes ascend.
+fn find<'a, const ENTRY: usize>(section: &'a [[u8; ENTRY]], field: &[u8]) -> Option<&'a [u8; ENTRY]> {
+    let (mut code, value) = ([BLANK; ENTRY], value(field));
+    code[..value.len()].copy_from_slice(value);
+    let found = section.binary_search_by(|entry| entry[..field.len()].cmp(&code[..field.len()]));
     found.ok().map(|index| &section[index])
 }
 
@@ -360,9 +379,9 @@ fn file_answer<'a>(file: &'a [u8], book: &'a [u8], room: usize) -> Result<Accept
     }
 
     let input_system = layout::of(&records[0], 2);
-    let unknown = is_blank(input_system) || find(book.input_systems, input_system).is_none();
+    let unknown = is_blank(input_system) || find(&book.input_systems, input_system).is_none();
     refuse_if(unknown, FileReason::InputSystem, 1)?;
-    refuse_if(*layout::of(&records[0], 3) != VERSION, FileReason::Version, 1)?;
+    refuse_if(correct::text(layout::of(&records[0], 3)) != VERSION, FileReason::Version, 1)?;
 
     let last = records.len();
     let trailer = |field| layout::of(&records[last - 1], field);
@@ -395,7 +414,7 @@ struct Batch<'a> {
     total: u128,
 }
 
-/// The batches of well nested records. 01 File answers: an amount that is not 20 digits counts as zero.
+/// The batches of well nested records. 01 File answers: an amount that is not 20 digits, once corrected, counts as zero.
 fn batches(records: &[Raw]) -> Vec<Batch<'_>> {
     let mut batches = Vec::new();
     let (mut start, mut payments, mut total) = (0, 0, 0);
@@ -506,7 +525,12 @@ impl<'a> Record<'a> {
         !is_blank(self.field(field))
     }
 
-    /// 01 Others: 36 and 48 are also unfilled when all zeros.
+    /// 01 Others: 36 is also unfilled when all zeros, and so is one zero, which is padded with zeros (02 W3).
+    fn filled_number(self, field: u64) -> bool {
+        self.filled(field) && number(self.field(field)) != Some(0)
+    }
+
+    /// 01 Others: 48 is also unfilled when all zeros. It is text: a zero and a blank are not.
     fn filled_not_zeros(self, field: u64) -> bool {
         self.filled(field) && !is_zeros(self.field(field))
     }
@@ -543,7 +567,8 @@ impl<'a> Record<'a> {
 
     fn listed<const N: usize>(self, field: u64, values: &[[u8; N]]) -> Check {
         self.required(field)?;
-        self.must(values.iter().any(|value| value == self.field(field)), field, Reason::Unlisted)
+        let text = correct::text(self.field(field));
+        self.must(values.contains(&text), field, Reason::Unlisted)
     }
 
     /// The entry of the book's section.
@@ -564,11 +589,12 @@ impl<'a> Record<'a> {
     }
 }
 
-/// 01 Date: Gregorian, years 0001 to 9999.
+/// 01 Date: Gregorian, years 0001 to 9999. Dates are not corrected (02 W3): every byte is a digit where it stands.
 fn is_day(year: &[u8], month: &[u8], day: &[u8]) -> bool {
-    let (Some(year), Some(month), Some(day)) = (number(year), number(month), number(day)) else {
+    if ![year, month, day].into_iter().all(is_digits) {
         return false;
-    };
+    }
+    let (year, month, day) = (decimal(year), decimal(month), decimal(day));
     let leap = year % 4 == 0 && (year % 100 != 0 || year % 400 == 0);
     let days = match month {
         1 | 3 | 5 | 7 | 8 | 10 | 12 => 31,
@@ -612,6 +638,16 @@ const MOST_KINDS_IN_BATCH: usize = 1_000;
 /// 02 W1: positions 23 to 54 of a DT, fields 78 to 86, are its kind of TAS/BETC.
 const TAS_KIND: Range<usize> = place(78).start..place(86).end;
 
+/// 02 W3: each of the fields is corrected within itself.
+fn tas_kind(tas: &Raw) -> [u8; TAS_KIND.end - TAS_KIND.start] {
+    let mut kind = [BLANK; TAS_KIND.end - TAS_KIND.start];
+    kind.copy_from_slice(&tas[TAS_KIND]);
+    for field in 78..=86 {
+        move_left(&mut kind[place(field).start - TAS_KIND.start..place(field).end - TAS_KIND.start]);
+    }
+    kind
+}
+
 /// 01 Batch reasons, Order: header, each payment, 12, BT, field 9's sum. `schedule_numbers` holds those of all earlier batches.
 fn batch_rules<'a>(batch: &Batch<'a>, book: &Book, schedule_numbers: &mut HashSet<&'a [u8]>) -> Check {
     let [header, payments @ .., trailer] = batch.records else {
@@ -652,24 +688,24 @@ fn batch_rules<'a>(batch: &Batch<'a>, book: &Book, schedule_numbers: &mut HashSe
 fn too_many_kinds(records: &[Raw]) -> bool {
     let mut kinds = HashSet::with_capacity(MOST_KINDS_IN_BATCH + 1);
     let tas = records.iter().filter(|raw| kind(raw) == Some(Kind::TasBetc));
-    tas.map(|raw| &raw[TAS_KIND])
+    tas.map(tas_kind)
         .any(|kind| kinds.insert(kind) && kinds.len() > MOST_KINDS_IN_BATCH)
 }
 
 /// 01 Header. Gives whether field 14 is a CARS Reporter (never in BC, where field 29 decides).
 fn header_rules<'a>(header: Record<'a>, book: &Book, schedule_numbers: &mut HashSet<&'a [u8]>) -> Check<bool> {
     header.required(6)?;
-    header.must(schedule_numbers.insert(header.field(6)), 6, Reason::Repeats)?;
+    header.must(schedule_numbers.insert(value(header.field(6))), 6, Reason::Repeats)?;
     match letter(header.raw) {
         CHECK => check_header_rules(header).map(|()| false),
         _ => voucher_header_rules(header, book),
     }
 }
 
-/// 01 Header: BN, BW, BI, BA.
+/// 01 Header: BN, BW, BI, BA. 02 W3: field 7 is moved right and padded with zeros, so that only a blank inside is one.
 fn voucher_header_rules(header: Record, book: &Book) -> Check<bool> {
     header.required(7)?;
-    header.must(!header.field(7).contains(&BLANK), 7, Reason::Shape)?;
+    header.must(!value(header.field(7)).contains(&BLANK), 7, Reason::Shape)?;
     header.date(8, hyphened_date)?;
     header.amount(9)?;
     header.listed(10, &VOUCHER_FORMS)?;
@@ -678,12 +714,13 @@ fn voucher_header_rules(header: Record, book: &Book) -> Check<bool> {
         NACHA => header.routing_number(13)?,
         _ => {}
     }
-    header.in_book(14, book.locations).map(flag)
+    header.in_book(14, &book.locations).map(flag)
 }
 
 /// 01 Header: BC.
 fn check_header_rules(header: Record) -> Check {
-    header.must(is_joined(header.field(6), header.field(18), header.field(19)), 6, Reason::Unmatched)?;
+    let joined: [u8; 14] = joined(header.field(18), header.field(19));
+    header.must(correct::text(header.field(6)) == joined, 6, Reason::Unmatched)?;
     header.digits(15)?;
     header.listed(16, &REGULAR_CHECK)?;
     header.date(17, plain_date)?;
@@ -694,10 +731,13 @@ fn check_header_rules(header: Record) -> Check {
     header.must((1..=12).contains(&month), 20, Reason::NoDate)
 }
 
-/// Whether a field is a check symbol, then a serial number, then blanks, as they stand (004 6, 23).
-fn is_joined(field: &[u8], symbol: &[u8], serial: &[u8]) -> bool {
-    let rest = field.strip_prefix(symbol).and_then(|rest| rest.strip_prefix(serial));
-    rest.is_some_and(is_blank)
+/// A check symbol, then a serial number, each corrected, then blanks over a width of N bytes (004 6, 23). 02 W3 moves the fields, not what
+/// is joined from them: it begins with blanks where the symbol is blank.
+fn joined<const N: usize>(symbol: &[u8], serial: &[u8]) -> [u8; N] {
+    let mut joined = [BLANK; N];
+    joined[..4].copy_from_slice(&correct::number::<4>(symbol));
+    joined[4..12].copy_from_slice(&correct::number::<8>(serial));
+    joined
 }
 
 /// What a payment's rules take from its batch.
@@ -750,10 +790,10 @@ fn detail_rules<'a>(detail: Record<'a>, within: InBatch, book: &Book, payment_id
     let letter = letter(detail.raw);
 
     detail.required(23)?;
-    detail.must(payment_ids.insert(detail.field(23)), 23, Reason::Repeats)?;
+    detail.must(payment_ids.insert(value(detail.field(23))), 23, Reason::Repeats)?;
     if letter == CHECK {
-        let joined = is_joined(detail.field(23), within.header.field(18), detail.field(58));
-        detail.must(joined, 23, Reason::Unmatched)?;
+        let joined: [u8; 20] = joined(within.header.field(18), detail.field(58));
+        detail.must(correct::text(detail.field(23)) == joined, 23, Reason::Unmatched)?;
     }
     let paid = detail.amount(24)?;
     detail.must(amount_in_range(paid, letter, detail.field(25)), 24, Reason::Range)?;
@@ -761,19 +801,19 @@ fn detail_rules<'a>(detail: Record<'a>, within: InBatch, book: &Book, payment_id
         detail.listed(25, &VOIDED_OR_NOT)?;
     }
     detail.required(26)?;
-    detail.in_book(28, book.payment_types)?;
+    detail.in_book(28, &book.payment_types)?;
     let reports = match letter {
-        CHECK => flag(detail.in_book(29, book.locations)?),
+        CHECK => flag(detail.in_book(29, &book.locations)?),
         _ => within.batch_reports,
     };
     if detail.filled(35) {
-        detail.in_book(35, book.states)?;
+        detail.in_book(35, &book.states)?;
     }
-    if detail.filled_not_zeros(36) {
+    if detail.filled_number(36) {
         detail.digits(36)?;
     }
     if detail.filled(38) {
-        detail.in_book(38, book.countries)?;
+        detail.in_book(38, &book.countries)?;
     }
     match letter {
         WIRE => {
@@ -790,7 +830,7 @@ fn detail_rules<'a>(detail: Record<'a>, within: InBatch, book: &Book, payment_id
         _ => {}
     }
     if detail.filled(52) {
-        detail.in_book(52, book.currencies)?;
+        detail.in_book(52, &book.currencies)?;
     }
     match letter {
         ADJUSTMENT => {
@@ -833,7 +873,7 @@ fn tas_rules(tas: Record, reports: bool, book: &Book) -> Check<(i128, bool)> {
             tas.required(field)?;
         }
     }
-    let credit = tas.filled(86) && flag(tas.in_book(86, book.betcs)?);
+    let credit = tas.filled(86) && flag(tas.in_book(86, &book.betcs)?);
     Ok((tas.amount(87)? as i128, credit))
 }
 
@@ -890,13 +930,13 @@ mod tests {
 
     fn sections() -> Vec<Vec<u8>> {
         vec![
-            section_bytes(1, &[("SYSTEM", 40, &[])]),
-            section_bytes(2, &[(PLAIN, 8, &[0]), (REPORTER, 8, &[1])]),
-            section_bytes(3, &[("CREDIT", 8, &[1]), ("DEBIT", 8, &[0]), ("DEBIT  2", 8, &[0])]),
-            section_bytes(4, &[("Vendor", 25, &[])]),
-            section_bytes(5, &[("NY", 2, &[])]),
-            section_bytes(6, &[("US", 2, &[])]),
-            section_bytes(7, &[("EUR", 3, &[]), ("USD", 3, &[])]),
+            section_bytes(1, &[("S", 40, &[]), ("SYSTEM", 40, &[])]),
+            section_bytes(2, &[(PLAIN, 8, &[0]), (REPORTER, 8, &[1]), ("3", 8, &[0])]),
+            section_bytes(3, &[("CREDIT", 8, &[1]), ("DEBIT", 8, &[0]), ("DEBIT  2", 8, &[0]), ("X", 8, &[0])]),
+            section_bytes(4, &[("V", 25, &[]), ("Vendor", 25, &[])]),
+            section_bytes(5, &[("NY", 2, &[]), ("Q", 2, &[])]),
+            section_bytes(6, &[("Q", 2, &[]), ("US", 2, &[])]),
+            section_bytes(7, &[("EUR", 3, &[]), ("Q", 3, &[]), ("USD", 3, &[])]),
         ]
     }
 
@@ -1014,8 +1054,11 @@ mod tests {
 
     const SOUND: [u64; 3] = [0; 3];
 
-    /// The smallest batch of a letter, with changes of (record in the batch, field, value).
-    fn changed(letter: char, changes: &[(usize, u64, &str)]) -> [u64; 3] {
+    /// Record in the batch, field and value.
+    type Change<'a> = (usize, u64, &'a str);
+
+    /// The smallest batch of a letter, with changes.
+    fn changed(letter: char, changes: &[Change]) -> [u64; 3] {
         let mut records = batch(letter, "S1", &[(12345, vec![])]);
         for &(record, field, value) in changes {
             put(&mut records[record], field, value);
@@ -1231,7 +1274,7 @@ mod tests {
             (5, 105, "00000000000000012346", 1_300_006),
             (5, 104, "000000000000000002", 1_200_006),
             (5, 103, "000000000000000005", 1_100_006),
-            (5, 105, "0000000000000012345 ", 1_000_006),
+            (5, 105, "000000000000001 2345", 1_000_006),
             (5, 104, "", 1_000_006),
             (0, 3, "200", 900_001),
             (0, 2, "SYSTEN", 800_001),
@@ -1319,7 +1362,7 @@ mod tests {
                 let listed = prefix <= 12 || (21..=32).contains(&prefix) || (61..=72).contains(&prefix) || prefix == 80;
                 assert_eq!(reason(&format!("{prefix:02}1234567")), if listed { 0 } else { 3 }, "{prefix}");
             }
-            assert_eq!(["000000000", "", "99000000A", "12100000"].map(reason), [0, 1, 2, 2]);
+            assert_eq!(["000000000", "", "99000000A", "1210 0000"].map(reason), [0, 1, 2, 2]);
         }
     }
 
@@ -1330,13 +1373,13 @@ mod tests {
         ("C", 0, 6, "100000000008", 7),
         ("C", 0, 6, "10000000000700", 7),
         ("NWIA", 0, 7, "", 1),
-        ("NWIA", 0, 7, "     1", 2),
+        ("NWIA", 0, 7, "0000 1", 2),
         ("NWIA", 0, 7, "ABCDEF", 0),
         ("NWIA", 0, 8, "", 1),
         ("NWIA", 0, 8, "20131126", 5),
         ("NWIA", 0, 8, "2013-11-31", 5),
         ("NWIA", 0, 9, "", 1),
-        ("NWIA", 0, 9, "12345", 2),
+        ("NWIA", 0, 9, "12345A", 2),
         ("NWIA", 0, 9, "00000000000000012346", 14),
         ("NWIA", 0, 10, "", 1),
         ("NWIA", 0, 10, "5515", 0),
@@ -1344,7 +1387,7 @@ mod tests {
         ("NWIA", 0, 14, "", 1),
         ("NWIA", 0, 14, "ABC", 4),
         ("C", 0, 15, "", 1),
-        ("C", 0, 15, "100", 2),
+        ("C", 0, 15, "10A", 2),
         ("C", 0, 16, "", 1),
         ("C", 0, 16, "1", 3),
         ("C", 0, 16, "A", 3),
@@ -1356,7 +1399,7 @@ mod tests {
         ("C", 0, 20, "1313", 5),
         ("C", 0, 20, "1200", 0),
         ("NWIAC", 1, 24, "", 1),
-        ("NWIAC", 1, 24, "12345", 2),
+        ("NWIAC", 1, 24, "12345A", 2),
         ("NWIA", 1, 24, "00000000000000000000", 8),
         ("C", 1, 24, "00000000010000000000", 8),
         ("C", 1, 25, "", 1),
@@ -1372,7 +1415,7 @@ mod tests {
         ("NWIAC", 1, 35, "XX", 4),
         ("NWIAC", 1, 36, "00000", 0),
         ("NWIAC", 1, 36, "12345", 0),
-        ("NWIAC", 1, 36, "0000", 2),
+        ("NWIAC", 1, 36, "0A00", 2),
         ("NWIAC", 1, 38, "US", 0),
         ("NWIAC", 1, 38, "XX", 4),
         ("W", 1, 44, "", 1),
@@ -1405,10 +1448,10 @@ mod tests {
         ("NWIC", 2, 66, "", 1),
         ("A", 2, 66, "", 0),
         ("NWIAC", 3, 99, "", 1),
-        ("NWIAC", 3, 99, "1", 2),
+        ("NWIAC", 3, 99, "1A", 2),
         ("NWIAC", 3, 99, "00000002", 13),
         ("NWIAC", 3, 100, "", 1),
-        ("NWIAC", 3, 100, "12345", 2),
+        ("NWIAC", 3, 100, "12345A", 2),
         ("NWIAC", 3, 100, "00000000000000012346", 14),
     ];
 
@@ -1433,8 +1476,7 @@ mod tests {
         assert_eq!(symbol("1000"), SOUND);
         assert_eq!(symbol("9998"), SOUND);
         assert_eq!(symbol("9999"), [8, 2, 18]);
-        assert_eq!(symbol("100"), [2, 2, 18]);
-        assert_eq!(symbol(""), [1, 2, 18]);
+        assert_eq!(symbol("10A"), [2, 2, 18]);
         assert_eq!(changed('C', &[(0, 19, "0000000A"), (0, 6, "10000000000A")]), [2, 2, 19]);
 
         assert_eq!(changed('C', &[(1, 58, "00000008")]), [7, 3, 23]);
@@ -1472,7 +1514,7 @@ mod tests {
         let mut rejected = batch('W', "S2", &[(20, vec![]), (3, vec![])]);
         put(&mut rejected[0], 7, "");
         let mut no_amount = batch('I', "S2", &[(7, vec![]), (9, vec![])]);
-        put(&mut no_amount[1], 24, "7");
+        put(&mut no_amount[1], 24, "7A");
         let other = batch('A', "S3", &[(5, vec![])]);
         assert_eq!(
             rows(&file(&[sound, rejected, no_amount, other])),
@@ -1541,7 +1583,7 @@ mod tests {
             assert_eq!(with(letter, REPORTER, &[(80, "0"), (84, "0"), (85, "0")]), SOUND);
             assert_eq!(with(letter, REPORTER, &[(80, "0"), (84, "0"), (85, "0"), (86, "")]), [1, 5, 86]);
             assert_eq!(with(letter, PLAIN, &[(87, "")]), [1, 5, 87]);
-            assert_eq!(with(letter, PLAIN, &[(87, "100")]), [2, 5, 87]);
+            assert_eq!(with(letter, PLAIN, &[(87, "100A")]), [2, 5, 87]);
             assert_eq!(with(letter, PLAIN, &[(88, "1")]), SOUND);
         }
         assert_eq!(changed('N', &[(0, 14, REPORTER)]), [11, 3, 76]);
@@ -1664,7 +1706,7 @@ mod tests {
         assert_eq!(with(&[&sixty, &sixty]), [10, 3, 96]);
         assert_eq!(with(&[&hundred, ""]), [1, 6, 96]);
         assert_eq!(with(&["", &hundred]), [1, 5, 96]);
-        assert_eq!(with(&["100"]), [2, 5, 96]);
+        assert_eq!(with(&["100A"]), [2, 5, 96]);
     }
 
     /// 01 Batch reasons, Order.
@@ -1710,5 +1752,534 @@ mod tests {
             put(&mut records[record], field, value);
         }
         assert_eq!(fault(records), SOUND);
+    }
+
+    /// A batch with one record of each kind: header, detail, DX, DT, DP and BT.
+    fn of_each_kind(letter: char) -> Vec<Raw> {
+        let id = id(letter, 0);
+        batch(
+            letter,
+            "S1",
+            &[(12345, vec![tas(&id, "DEBIT", 12345), procurement(&id, &cents(12345))])],
+        )
+    }
+
+    /// Such a batch with changes.
+    fn changed_of_each(letter: char, changes: &[Change]) -> [u64; 3] {
+        let mut records = of_each_kind(letter);
+        for &(record, field, value) in changes {
+            put(&mut records[record], field, value);
+        }
+        fault(records)
+    }
+
+    fn width(field: u64) -> usize {
+        place(field).len()
+    }
+
+    /// Digits with blanks before, after and on both sides, and with some of the zeros that pad them.
+    fn moved_number(field: u64, digits: &str) -> Vec<String> {
+        let width = width(field);
+        vec![
+            format!("{digits:>width$}"),
+            format!("{digits:<width$}"),
+            format!("{digits:^width$}"),
+            format!("{:>width$}", format!("0{digits}")),
+            format!("{:<width$}", format!("0{digits}")),
+            format!("{digits:0>width$}"),
+        ]
+    }
+
+    /// 02 W3: letters, record in the batch, number and digits that leave room for blanks.
+    #[rustfmt::skip]
+    const NUMBERS: &[(&str, usize, u64, &str)] = &[
+        ("NWIA", 0, 9, "12345"),
+        ("W", 0, 12, "21030004"),
+        ("N", 0, 13, "61000146"),
+        ("C", 0, 15, "10"),
+        ("C", 0, 19, "7"),
+        ("C", 0, 20, "113"),
+        ("NWIAC", 1, 24, "12345"),
+        ("NWIAC", 1, 36, "501"),
+        ("W", 1, 42, "21030004"),
+        ("N", 1, 43, "61000146"),
+        ("C", 1, 58, "7"),
+        ("NWIAC", 3, 87, "12345"),
+        ("NWIAC", 4, 96, "12345"),
+        ("NWIAC", 5, 99, "1"),
+        ("NWIAC", 5, 100, "12345"),
+    ];
+
+    #[test]
+    fn numbers_moved() {
+        for &(letters, record, field, digits) in NUMBERS {
+            for value in moved_number(field, digits) {
+                for letter in letters.chars() {
+                    assert_eq!(
+                        changed_of_each(letter, &[(record, field, &value)]),
+                        SOUND,
+                        "{letter} {field} '{value}'"
+                    );
+                }
+            }
+        }
+    }
+
+    /// A blank inside, or any other byte. What is joined from a check's numbers is tested before their shape.
+    #[test]
+    fn numbers_of_another_shape() {
+        for &(letters, record, field, digits) in NUMBERS {
+            let (first, rest) = if digits.len() > 1 { digits.split_at(1) } else { ("0", digits) };
+            let values = [
+                format!("{first} {rest}"),
+                format!("{first}-{rest}"),
+                format!("-{digits}"),
+                format!("{digits}-"),
+            ];
+            let expected = match field {
+                19 => [7, 2, 6],
+                58 => [7, 3, 23],
+                _ => [2, record as u64 + 2, field],
+            };
+            for value in values {
+                for letter in letters.chars() {
+                    assert_eq!(
+                        changed_of_each(letter, &[(record, field, &value)]),
+                        expected,
+                        "{letter} {field} '{value}'"
+                    );
+                }
+            }
+        }
+    }
+
+    /// 02 W3: the moved number counts as it would if zero-padded, in every sum and rule.
+    #[test]
+    fn what_moved_numbers_count() {
+        assert_eq!(changed_of_each('N', &[(0, 9, "  12346")]), [14, 2, 9]);
+        assert_eq!(changed_of_each('N', &[(0, 9, "123450")]), [14, 2, 9]);
+        assert_eq!(changed_of_each('N', &[(3, 87, " 12346")]), [9, 3, 87]);
+        assert_eq!(changed_of_each('N', &[(4, 96, " 12346")]), [10, 3, 96]);
+        assert_eq!(changed_of_each('N', &[(5, 99, "   2")]), [13, 7, 99]);
+        assert_eq!(changed_of_each('N', &[(5, 100, "   12346")]), [14, 7, 100]);
+        assert_eq!(changed('N', &[(1, 24, " 0 ")]), [8, 3, 24]);
+        assert_eq!(changed('C', &[(1, 25, "1"), (1, 24, " 0"), (3, 100, "0")]), SOUND);
+        assert_eq!(changed('C', &[(1, 24, "     10000000000"), (3, 100, "10000000000")]), [8, 3, 24]);
+        assert_eq!(changed('C', &[(1, 24, "     9999999999"), (3, 100, "9999999999")]), SOUND);
+        // Routing numbers: the prefix of nine digits.
+        for (value, reason) in [(" 13000000", 0), ("130000000", 3), ("13000000 ", 0), ("   0", 0), (" 99000000", 0)] {
+            let expected = if reason == 0 { SOUND } else { [reason, 2, 12] };
+            assert_eq!(changed('W', &[(0, 12, value)]), expected, "{value}");
+        }
+        assert_eq!(changed('W', &[(0, 12, " 1300000A")]), [2, 2, 12]);
+        // The month is the first two of four digits.
+        for (value, reason) in [("113 ", 0), (" 113", 0), (" 13 ", 5), ("1313", 5), ("1 13", 2), ("0   ", 5)] {
+            let expected = if reason == 0 { SOUND } else { [reason, 2, 20] };
+            assert_eq!(changed('C', &[(0, 20, value)]), expected, "{value}");
+        }
+
+        let mut moved = batch('N', "S1", &[(100, vec![]), (20, vec![]), (3, vec![])]);
+        put(&mut moved[1], 24, " 100");
+        put(&mut moved[3], 24, &format!("{:>20}", 20));
+        assert_eq!(rows(&file(&[moved]))[1], [2, 8, 3, 0, 123, 0, 0, 0]);
+        let nines = "9".repeat(20);
+        let mut other_shape = batch('N', "S1", &[(100, vec![]), (20, vec![])]);
+        put(&mut other_shape[1], 24, " 1 00");
+        put(&mut other_shape[3], 24, &nines);
+        assert_eq!(rows(&file(&[other_shape]))[1], [2, 6, 2, 9_999_999_999, 9_999_999_999, 2, 3, 24]);
+    }
+
+    /// 02 W3: FT's numbers.
+    #[test]
+    fn trailer_numbers_moved() {
+        let with = |field, value: &str| {
+            let mut records = smallest('N');
+            put(&mut records[5], field, value);
+            answer(&records)
+        };
+        for (field, digits, other, expected) in [
+            (103, "6", "7", 1_100_006),
+            (104, "1", "10", 1_200_006),
+            (105, "12345", "2345", 1_300_006),
+        ] {
+            for (value, other) in moved_number(field, digits).into_iter().zip(moved_number(field, other)) {
+                assert_eq!(with(field, &value), 0, "{field} '{value}'");
+                assert_eq!(with(field, &other), expected, "{field} '{other}'");
+            }
+            for value in [
+                "",
+                &format!("0 {digits}"),
+                &format!(" {digits}-"),
+                &format!("-{digits}"),
+                &format!(" {digits} 0"),
+            ] {
+                assert_eq!(with(field, value), 1_000_006, "{field} '{value}'");
+            }
+        }
+    }
+
+    /// 02 W3: letters, record in the batch, text field and a value with blanks behind it.
+    #[rustfmt::skip]
+    const TEXTS: &[(&str, usize, u64, &str)] = &[
+        ("NWIA", 0, 6, "X"),
+        ("NWIA", 0, 10, "215"),
+        ("NWIA", 0, 14, "3"),
+        ("NWIAC", 1, 26, "X"),
+        ("NWIAC", 1, 28, "V"),
+        ("NWIAC", 1, 28, "Vendor"),
+        ("C", 1, 29, "3"),
+        ("NWIAC", 1, 35, "Q"),
+        ("NWIAC", 1, 38, "Q"),
+        ("I", 1, 51, "Check"),
+        ("I", 1, 51, "Western Union"),
+        ("NWIAC", 1, 52, "Q"),
+        ("A", 1, 54, "X"),
+        ("A", 1, 55, "X"),
+        ("NWIC", 2, 66, "X"),
+        ("NWIAC", 3, 80, "X"),
+        ("NWIAC", 3, 84, "X"),
+        ("NWIAC", 3, 85, "X"),
+        ("NWIAC", 3, 86, "X"),
+    ];
+
+    /// With one blank before the text, and with all that there is room for.
+    #[test]
+    fn texts_moved() {
+        for &(letters, record, field, text) in TEXTS {
+            for value in [format!(" {text}"), format!("{text:>width$}", width = width(field))] {
+                for letter in letters.chars() {
+                    assert_eq!(
+                        changed_of_each(letter, &[(record, field, &value)]),
+                        SOUND,
+                        "{letter} {field} '{value}'"
+                    );
+                }
+            }
+        }
+        let reporter = [
+            (0, 14, REPORTER),
+            (3, 80, "  0"),
+            (3, 84, "   0"),
+            (3, 85, " 0"),
+            (3, 86, "       X"),
+        ];
+        assert_eq!(changed_of_each('N', &reporter), SOUND);
+        assert_eq!(changed_of_each('N', &[(3, 86, "  CREDIT")]), SOUND);
+
+        #[rustfmt::skip]
+        let wrong: &[(char, usize, u64, &str, u64)] = &[
+            ('N', 0, 10, "21 5", 3),
+            ('N', 0, 10, " 551", 3),
+            ('N', 0, 14, "    4", 4),
+            ('N', 1, 28, " Ven dor", 4),
+            ('C', 1, 29, "    4", 4),
+            ('N', 1, 35, " N", 4),
+            ('N', 1, 38, " U", 4),
+            ('W', 1, 44, " CT", 3),
+            ('N', 1, 48, " 2", 3),
+            ('I', 1, 51, " Western  Union", 3),
+            ('N', 1, 52, " US", 4),
+            ('N', 1, 62, " PP", 3),
+            ('N', 3, 86, " DEBIT 2", 4),
+        ];
+        for &(letter, record, field, value, reason) in wrong {
+            let expected = [reason, record as u64 + 2, field];
+            assert_eq!(
+                changed_of_each(letter, &[(record, field, value)]),
+                expected,
+                "{letter} {field} '{value}'"
+            );
+        }
+    }
+
+    /// 02 W3: InputSystem and version.
+    #[test]
+    fn file_header_moved() {
+        let with = |field, value: &str| {
+            let mut records = smallest('N');
+            put(&mut records[0], field, value);
+            answer(&records)
+        };
+        for value in [" SYSTEM", "   S", &format!("{:>40}", "S"), &format!("{:>40}", "SYSTEM")] {
+            assert_eq!(with(2, value), 0, "{value}");
+        }
+        assert_eq!(with(2, " SYS TEM"), 800_001);
+        assert_eq!(with(2, ""), 800_001);
+        assert_eq!(with(3, " 20"), 900_001);
+        assert_eq!(with(3, "201"), 0);
+    }
+
+    /// 02 W3: dates do not move.
+    #[test]
+    fn dates_stay() {
+        #[rustfmt::skip]
+        let moved = [
+            ('N', 0, 8, " 2013-11-2"), ('N', 0, 8, "2013-11- 6"), ('N', 0, 8, "2013- 1-26"), ('N', 0, 8, " 213-11-26"),
+            ('C', 0, 17, " 2013112"), ('C', 0, 17, "2013 126"), ('C', 0, 17, "201311 6"), ('C', 0, 17, " 0131126"),
+            ('A', 1, 56, " 2013-11-2"), ('A', 1, 56, "2013-11- 6"), ('C', 1, 59, " 2013112"), ('C', 1, 59, "2013112 "),
+        ];
+        for (letter, record, field, value) in moved {
+            assert_eq!(
+                changed(letter, &[(record, field, value)]),
+                [5, record as u64 + 2, field],
+                "{field} '{value}'"
+            );
+        }
+    }
+
+    /// 02 W3: field 7 is moved right and padded with zeros.
+    #[test]
+    fn summary_number_moved() {
+        for value in ["1", "     1", "  1", " ABC", "ABCDE", " ABCDE", "0", "     0", "000001", " -----"] {
+            assert_eq!(changed('N', &[(0, 7, value)]), SOUND, "'{value}'");
+        }
+        for value in ["1 1", "   1 1", " 1 1", "1    1", "ABC EF", " 0 0", "0    0"] {
+            assert_eq!(changed('N', &[(0, 7, value)]), [2, 2, 7], "'{value}'");
+        }
+        assert_eq!(changed('N', &[(0, 7, "")]), [1, 2, 7]);
+        assert_eq!(changed('C', &[(0, 7, "1 1")]), SOUND);
+    }
+
+    /// 02 W3: 36 is a number, whose one zero is padded with zeros; 48 is text, which is not.
+    #[test]
+    fn zeros_of_36_and_48() {
+        for value in ["    0", "0", " 0", "  000", " 00", "00000"] {
+            assert_eq!(changed('N', &[(1, 36, value)]), SOUND, "'{value}'");
+        }
+        assert_eq!(changed('N', &[(1, 36, "0 0")]), [2, 3, 36]);
+        assert_eq!(changed('N', &[(1, 36, "  1 2")]), [2, 3, 36]);
+        assert_eq!(
+            ["00", "", " 0", "0 ", "22"].map(|value| changed('N', &[(1, 48, value)])[0]),
+            [0, 0, 3, 3, 0]
+        );
+    }
+
+    /// A payment's records with these IDs: its detail's, then those of a DX, a DT and a DP.
+    fn with_ids([of_detail, others @ ..]: [&str; 4]) -> Vec<Raw> {
+        let mut records = file(&[of_each_kind('N')]);
+        put(&mut records[2], 23, of_detail);
+        for (record, id) in records[3..6].iter_mut().zip(others) {
+            put(record, 65, id);
+        }
+        records
+    }
+
+    /// 02 W3: nesting follows.
+    #[test]
+    fn payment_ids_moved() {
+        let far = &format!("{:>20}", "ID0");
+        for ids in [
+            ["ID0", "  ID0", "ID0", "ID0"],
+            ["  ID0", "ID0", " ID0", far],
+            [far, "ID0", far, "    ID0"],
+            [" I D", "I D", "   I D", "I D"],
+        ] {
+            assert_eq!(rows(&with_ids(ids))[1][5..], SOUND, "{ids:?}");
+        }
+        for (ids, expected) in [
+            (["ID0", "I D0", "ID0", "ID0"], 500_004),
+            (["ID0", "ID0", " I D0", "ID0"], 500_005),
+            (["ID0", "ID0", " ID0", " 0ID0"], 500_006),
+            (["ID0", "", "ID0", "ID0"], 500_004),
+            (["", "", "", " ID0"], 500_006),
+            (["00", "0", "00", "00"], 500_004),
+        ] {
+            assert_eq!(answer(&with_ids(ids)), expected, "{ids:?}");
+        }
+        assert_eq!(rows(&with_ids(["", "", "", ""]))[1][5..], [1, 3, 23]);
+    }
+
+    /// 02 W3: repeats follow.
+    #[test]
+    fn repeats_moved() {
+        let faults = |schedule_numbers: [&str; 3]| {
+            let batches = schedule_numbers.map(|number| batch('N', number, &[(1, vec![])]));
+            [1, 2, 3].map(|row| rows(&file(&batches))[row][5])
+        };
+        assert_eq!(faults(["S1", " S1", "S 1"]), [0, 6, 0]);
+        assert_eq!(faults([" S1", "S", "S1"]), [0, 0, 6]);
+        assert_eq!(faults(["            S1", "0S1", "    S1"]), [0, 0, 6]);
+        assert_eq!(faults(["", "  ", "S1"]), [1, 1, 0]);
+
+        let of_ids = |ids: [&str; 2]| {
+            let mut records = batch('N', "S1", &[(1, vec![]), (2, vec![])]);
+            for (at, id) in [(1, ids[0]), (3, ids[1])] {
+                put(&mut records[at], 23, id);
+                put(&mut records[at + 1], 65, id);
+            }
+            fault(records)
+        };
+        assert_eq!(of_ids(["ID", "   ID"]), [6, 5, 23]);
+        assert_eq!(of_ids([&format!("{:>20}", "ID"), "ID"]), [6, 5, 23]);
+        assert_eq!(of_ids(["ID", "I D"]), SOUND);
+        assert_eq!(of_ids([" 7", "07"]), SOUND);
+        assert_eq!(of_ids(["  ", "ID"]), [1, 3, 23]);
+    }
+
+    /// 02 W3: what is joined from corrected numbers is not moved again.
+    #[test]
+    fn check_numbers_moved() {
+        #[rustfmt::skip]
+        let sound: &[&[Change]] = &[
+            &[(0, 19, "7")],
+            &[(0, 19, "       7")],
+            &[(0, 19, "   07  ")],
+            &[(1, 58, "7"), (0, 19, "  7")],
+            &[(1, 58, "  0007")],
+            &[(0, 6, "  100000000007")],
+            &[(0, 6, " 100000000007"), (0, 19, " 7 ")],
+            &[(1, 23, "        100000000007")],
+            &[(1, 23, "   100000000007"), (2, 65, " 100000000007"), (1, 58, "7")],
+        ];
+        for changes in sound {
+            assert_eq!(changed('C', changes), SOUND, "{changes:?}");
+        }
+        #[rustfmt::skip]
+        let unsound: &[(&[Change], [u64; 3])] = &[
+            (&[(0, 18, "999"), (0, 6, "099900000007"), (1, 23, "099900000007"), (2, 65, "099900000007")], [8, 2, 18]),
+            (&[(0, 18, " 999"), (0, 6, "099900000007")], [8, 2, 18]),
+            (&[(0, 18, "999"), (0, 6, "999 00000007")], [7, 2, 6]),
+            (&[(0, 18, "999"), (0, 6, "99900000007")], [7, 2, 6]),
+            (&[(0, 6, "10007")], [7, 2, 6]),
+            (&[(0, 19, "7"), (0, 6, "1000       7")], [7, 2, 6]),
+            (&[(0, 19, "7"), (0, 6, "10007")], [7, 2, 6]),
+            // Of any other shape they are moved like text before they are joined.
+            (&[(0, 18, " 10A"), (0, 6, "10A 00000007")], [2, 2, 18]),
+            (&[(0, 18, " 10A"), (0, 6, " 10A00000007")], [7, 2, 6]),
+            (&[(0, 18, "1 00"), (0, 6, "1 0000000007")], [2, 2, 18]),
+            (&[(0, 19, "      7A"), (0, 6, "10007A")], [2, 2, 19]),
+            (&[(0, 19, "  0  7"), (0, 6, "10000  7")], [2, 2, 19]),
+            (&[(0, 19, ""), (0, 6, "1000")], [1, 2, 19]),
+            // What is joined begins with blanks, and no corrected field does.
+            (&[(0, 18, ""), (0, 6, "    00000007")], [7, 2, 6]),
+            (&[(0, 18, ""), (0, 6, "00000007")], [7, 2, 6]),
+            (&[(1, 58, "7"), (1, 23, "10007"), (2, 65, "10007")], [7, 3, 23]),
+            (&[(1, 58, "  7A"), (1, 23, "10007A"), (2, 65, "10007A")], [2, 3, 58]),
+            (&[(1, 58, ""), (1, 23, "  1000"), (2, 65, "1000")], [1, 3, 58]),
+            (&[(1, 58, "8"), (1, 23, "100000000008"), (2, 65, "100000000008")], [7, 3, 58]),
+            (&[(1, 58, "8"), (1, 23, "100000000007")], [7, 3, 23]),
+        ];
+        for (changes, expected) in unsound {
+            assert_eq!(changed('C', changes), *expected, "{changes:?}");
+        }
+    }
+
+    /// 02 W3: all blank stays blank.
+    #[test]
+    fn all_blank_as_before() {
+        for &(letters, record, field, _) in NUMBERS {
+            let expected = match field {
+                19 => [7, 2, 6],
+                58 => [7, 3, 23],
+                36 | 96 => SOUND,
+                _ => [1, record as u64 + 2, field],
+            };
+            for letter in letters.chars() {
+                assert_eq!(changed_of_each(letter, &[(record, field, "")]), expected, "{letter} {field}");
+            }
+        }
+    }
+
+    /// 02 W3: codes are corrected before their order is tested, and then looked up.
+    #[test]
+    fn books_moved() {
+        let with = |kind: usize, bytes: Vec<u8>, record: usize, field, value: &str| {
+            let mut sections = sections();
+            sections[kind - 1] = bytes;
+            let (mut records, mut report) = (smallest('N'), [0; ROOM]);
+            put(&mut records[record], field, value);
+            let answer = judge(records.as_flattened(), &sections.concat(), &mut report);
+            (answer, report[ROW + 40])
+        };
+        let currencies = |codes: [&str; 2]| section_bytes(7, &codes.map(|code| (code, 3, &[][..])));
+        // Ascending as they stand, not once corrected.
+        assert_eq!(with(7, currencies([" B", "A"]), 2, 52, "").0, 400_000);
+        assert_eq!(with(7, currencies([" A", "A"]), 2, 52, "").0, 400_000);
+        assert_eq!(with(7, currencies(["  A", " A"]), 2, 52, "").0, 400_000);
+        // Ascending once corrected, not as they stand.
+        for value in ["A", " A", "  A", "B", " B", "  B"] {
+            assert_eq!(with(7, currencies(["A", " B"]), 2, 52, value), (0, 0), "{value}");
+            assert_eq!(with(7, currencies(["A", "  B"]), 2, 52, value), (0, 0), "{value}");
+            assert_eq!(with(7, currencies([" A", " B"]), 2, 52, value), (0, 0), "{value}");
+        }
+        assert_eq!(with(7, currencies(["A", " B"]), 2, 52, "AB"), (0, 4));
+        assert_eq!(with(7, currencies(["A", " A "]), 2, 52, "").0, 400_000);
+        // An all-blank code stays, and comes before every letter but after the byte 3F.
+        assert_eq!(with(7, currencies(["", "  A"]), 2, 52, " A"), (0, 0));
+        assert_eq!(with(7, currencies(["  A", ""]), 2, 52, " A").0, 400_000);
+        assert_eq!(
+            with(7, vec![8, 0, 0, 0, 7, 0, 0x40, 0xC1, 0x40, 0xC1, 0x3F, 0x40], 2, 52, "A").0,
+            400_000
+        );
+        assert_eq!(
+            with(7, vec![8, 0, 0, 0, 7, 0, 0xC1, 0x3F, 0x40, 0x40, 0xC1, 0x40], 2, 52, "A"),
+            (0, 0)
+        );
+
+        // The flag is no part of the code.
+        let locations = |codes: [(&str, u8); 2]| section_bytes(2, &[(codes[0].0, 8, &[codes[0].1]), (codes[1].0, 8, &[codes[1].1])]);
+        assert_eq!(with(2, locations([("      11", 0), ("     111", 1)]), 1, 14, " 11"), (0, 0));
+        assert_eq!(with(2, locations([("      11", 0), ("     111", 1)]), 1, 14, "111"), (0, 11));
+        assert_eq!(with(2, locations([("      11", 0), ("11", 1)]), 1, 14, "11").0, 400_000);
+        assert_eq!(with(2, locations([("     111", 0), ("      11", 1)]), 1, 14, "11").0, 400_000);
+
+        assert_eq!(
+            with(1, section_bytes(1, &[(&format!("{:>40}", "NEW"), 40, &[])]), 0, 2, " NEW"),
+            (0, 0)
+        );
+        assert_eq!(with(4, section_bytes(4, &[("    Vendor", 25, &[])]), 1, 10, "5515"), (0, 0));
+        assert_eq!(with(5, section_bytes(5, &[("NY", 2, &[]), (" Z", 2, &[])]), 2, 35, "Z"), (0, 0));
+        assert_eq!(with(6, section_bytes(6, &[(" A", 2, &[]), ("US", 2, &[])]), 2, 38, "A"), (0, 0));
+    }
+
+    /// 02 W1 and W3: each of fields 78 to 86 is corrected within itself.
+    #[test]
+    fn kinds_moved() {
+        let after_999_kinds = |one: &[(u64, &str)], other: &[(u64, &str)]| {
+            let of = |fields: &[(u64, &str)]| record("DT", &[fields, &[(87, &cents(1))]].concat());
+            fault(batch_of_tas("S", &[tas_of_kinds(0..999), vec![of(one), of(other)]].concat(), 100))
+        };
+        for field in (78..=86).filter(|&field| width(field) > 1) {
+            let far = &format!("{:>width$}", "X", width = width(field));
+            assert_eq!(after_999_kinds(&[(field, "X")], &[(field, far)]), SOUND, "{field}");
+            assert_eq!(after_999_kinds(&[(field, far)], &[(field, "X")]), SOUND, "{field}");
+        }
+        assert_eq!(after_999_kinds(&[(79, " X"), (84, "  1")], &[(79, "  X"), (84, "1")]), SOUND);
+        assert_eq!(after_999_kinds(&[(79, "X X")], &[(79, "XX")]), [12, 2, 76]);
+        assert_eq!(after_999_kinds(&[(78, " X")], &[(79, "X")]), [12, 2, 76]);
+        assert_eq!(after_999_kinds(&[(84, "1")], &[(84, "01")]), [12, 2, 76]);
+        assert_eq!(after_999_kinds(&[(86, "    X")], &[(86, "X")]), SOUND);
+    }
+
+    /// 02 W2 and W3: a file in ASCII is translated first; its blank is 20.
+    #[test]
+    fn ascii_moved() {
+        for letter in "NCWIA".chars() {
+            let mut records = file(&[of_each_kind(letter)]);
+            let (plain, id) = (rows(&records), id(letter, 0));
+            put(&mut records[0], 2, "   SYSTEM");
+            put(&mut records[1], 7, " 1");
+            put(&mut records[2], 23, &format!("{id:>20}"));
+            put(&mut records[2], 24, "  12345");
+            put(&mut records[2], 28, " Vendor");
+            put(&mut records[3], 65, &format!("  {id}"));
+            put(&mut records[4], 87, "12345");
+            put(&mut records[6], 99, "  1");
+            put(&mut records[7], 103, &format!("{:>18}", 8));
+            assert_eq!(rows(&records), plain, "{letter}");
+            assert_eq!(rows(&in_ascii(&records)), plain, "{letter}");
+        }
+        let with = |record: usize, at: usize, byte| {
+            let mut records = in_ascii(&smallest('N'));
+            records[record][at] = byte;
+            answer(&records)
+        };
+        // 40 is no blank in ASCII: it becomes 7C.
+        assert_eq!(with(5, place(103).start, b' '), 0);
+        assert_eq!(with(5, place(103).start, 0x40), 1_000_006);
+        assert_eq!(with(3, place(65).end - 1, b' '), 0);
+        assert_eq!(with(3, place(65).end - 1, 0x40), 500_004);
+        assert_eq!(with(3, place(65).end - 1, 0x1F), 500_004);
+        assert_eq!(with(5, place(103).start, 0x1F), 700_006);
     }
 }

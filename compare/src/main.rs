@@ -39,7 +39,8 @@ const ALLOWED: &[(u64, u64, &str)] = &[
     (1, 15, "C"), (2, 15, "C"),
     (1, 16, "C"), (3, 16, "C"),
     (1, 17, "C"), (5, 17, "C"),
-    (1, 18, "C"), (2, 18, "C"), (8, 18, "C"),
+    // 02 W3: never (1, 18), as no corrected 6 begins with the blanks that a blank 18 puts in front.
+    (2, 18, "C"), (8, 18, "C"),
     (1, 19, "C"), (2, 19, "C"),
     (1, 20, "C"), (2, 20, "C"), (5, 20, "C"),
     // Detail
