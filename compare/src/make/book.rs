@@ -1,5 +1,8 @@
 //! Code books (01 Code book): sound ones, and ways to make them unsound.
 
+use std::ops::Range;
+
+use super::justify::{Justified, EBCDIC};
 use super::record::{ebcdic, write_number, BLANK};
 use super::sender::printable;
 use crate::random::Random;
@@ -21,7 +24,7 @@ const fn has_flag(kind: usize) -> bool {
     kind == LOCATIONS || kind == BETC
 }
 
-/// Entries, each with its flag if its kind has one, ascending.
+/// Entries, each with its flag if its kind has one, ascending. Codes are moved left (02 W3).
 #[derive(Default)]
 pub struct Book([Vec<Vec<u8>>; 7]);
 
@@ -29,8 +32,9 @@ impl Book {
     /// A code shorter than its kind's width is filled with blanks; one that is there already stays as it is.
     pub fn add(&mut self, kind: usize, code: &[u8], flag: u8) {
         let width = WIDTHS[kind - 1];
-        let mut entry = code.to_vec();
-        entry.resize(width, BLANK);
+        let mut entry = vec![BLANK; width];
+        let code = EBCDIC.value(code);
+        entry[..code.len()].copy_from_slice(code);
         let section = &mut self.0[kind - 1];
         if let Err(place) = section.binary_search_by(|other| other[..width].cmp(&entry)) {
             entry.extend(has_flag(kind).then_some(flag));
@@ -178,7 +182,7 @@ impl Part {
     /// The widths of its codes and of its entries.
     fn widths(&self) -> (usize, usize) {
         let kind = usize::from(self.kind).clamp(1, 7);
-        (WIDTHS[kind - 1], WIDTHS[kind - 1] + usize::from(has_flag(kind)))
+        (WIDTHS[kind - 1], entry_width(kind))
     }
 }
 
@@ -187,14 +191,17 @@ impl Part {
 pub enum BookDamage {
     LengthOff, LengthWild, KindWrong, SectionsSwapped, SectionMissing, SectionTwice, SectionAfter, PartOfEntry,
     CodesEqual, CodesSwapped, FlagWrong, TrailingBytes, Cut, Empty, AnyByte,
+    /// 02 W3: one code that is its neighbour's but for its place, and one that is greater than its neighbour's: both ascend as they stand.
+    MovedEqual, MovedSwapped,
 }
 
 use BookDamage::*;
 
 #[rustfmt::skip]
-pub const BOOK_DAMAGES: [BookDamage; 15] = [
+pub const BOOK_DAMAGES: [BookDamage; 19] = [
     LengthOff, LengthWild, KindWrong, SectionsSwapped, SectionMissing, SectionTwice, SectionAfter, PartOfEntry,
     CodesEqual, CodesSwapped, FlagWrong, TrailingBytes, Cut, Empty, AnyByte,
+    MovedEqual, MovedEqual, MovedSwapped, MovedSwapped,
 ];
 
 /// Writes the book with these damages, each drawn from its own seed.
@@ -230,7 +237,7 @@ fn damage_parts(parts: &mut Vec<Part>, damage: BookDamage, random: &Random) {
             part.entries.resize(part.entries.len() + extra, 0xFF);
             part.length += extra as u32;
         }
-        CodesEqual | CodesSwapped | FlagWrong => {
+        CodesEqual | CodesSwapped | FlagWrong | MovedEqual | MovedSwapped => {
             // The first section from there on that has the entries the damage asks for.
             let _ = (at..parts.len())
                 .chain(0..at)
@@ -253,9 +260,73 @@ fn damage_entries(part: &mut Part, damage: BookDamage, random: &Random) -> bool 
                 _ => left.swap_with_slice(right),
             }
         }
+        MovedEqual | MovedSwapped if count > 1 => {
+            let start = random.index(count - 1);
+            return (start..count - 1).chain(0..start).any(|pair| {
+                let (left, right) = part.entries[pair * width..(pair + 2) * width].split_at_mut(width);
+                move_before(&mut left[..code], &mut right[..code], damage, random)
+            });
+        }
         _ => return false,
     }
     true
+}
+
+/// Two codes that ascend as they stand, as the left one begins with a blank, but not once corrected. False where it has no room for one.
+fn move_before(left: &mut [u8], right: &mut [u8], damage: BookDamage, random: &Random) -> bool {
+    let moved = if matches!(damage, MovedEqual) { &*left } else { &*right };
+    let value = EBCDIC.value(moved).to_vec();
+    let room = left.len() - value.len();
+    if value.is_empty() || room == 0 {
+        return false;
+    }
+    right.copy_from_slice(left);
+    EBCDIC.put(left, 1 + random.index(room), 0, &value);
+    true
+}
+
+/// The entries of each kind, where the bytes are laid out as a book.
+fn sections(book: &[u8]) -> Option<Vec<Range<usize>>> {
+    let mut sections = Vec::new();
+    let mut end = 0;
+    for kind in 1..=7 {
+        let [a, b, c, d, low, high] = *book[end..].first_chunk()?;
+        let (start, length) = (end + 6, u32::from_le_bytes([a, b, c, d]) as usize);
+        end = start + length.checked_sub(2)?;
+        if end > book.len() || u16::from_le_bytes([low, high]) != kind {
+            return None;
+        }
+        sections.push(start..end);
+    }
+    Some(sections)
+}
+
+/// The width of an entry: its code, and its flag if it has one.
+fn entry_width(kind: usize) -> usize {
+    WIDTHS[kind - 1] + usize::from(has_flag(kind))
+}
+
+/// 02 W3: moves one in so many of the codes, where the bytes are laid out as a book; gives how many have other bytes now.
+pub fn move_codes(book: &mut [u8], of: u64, random: &Random) -> u64 {
+    let mut moved = 0;
+    for (kind, entries) in (1..).zip(sections(book).unwrap_or_default()) {
+        for entry in book[entries].chunks_exact_mut(entry_width(kind)) {
+            let code = &mut entry[..WIDTHS[kind - 1]];
+            moved += u64::from(random.chance(of) && EBCDIC.move_value(code, Justified::Text, random));
+        }
+    }
+    moved
+}
+
+/// Whether the bytes are laid out as a book whose codes, read so, strictly ascend in each section.
+pub fn codes_ascend(book: &[u8], read: fn(&[u8]) -> Vec<u8>) -> bool {
+    let ascend = |(kind, entries): (usize, Range<usize>)| {
+        let entries = book[entries].chunks_exact(entry_width(kind));
+        entries
+            .map(|entry| read(&entry[..WIDTHS[kind - 1]]))
+            .is_sorted_by(|one, next| one < next)
+    };
+    sections(book).is_some_and(|sections| (1..).zip(sections).all(ascend))
 }
 
 fn damage_bytes(book: &mut Vec<u8>, damage: BookDamage, random: &Random) {

@@ -1,7 +1,8 @@
 //! Damages: to one field, one record, the file's end or the book (01 File answers, Batch reasons).
 
 use super::book::{Book, BookDamage, BOOK_DAMAGES};
-use super::fields::{break_bytes, Rule, Way, ALL, BATCH_RULES, FILE_RULES, LABEL_RULES};
+use super::fields::{break_field, split, Rule, Way, ALL, BATCH_RULES, FILE_RULES, LABEL_RULES};
+use super::justify::{corrected, Justified, EBCDIC};
 use super::record::{code_of, fields_of, set, write_text, BLANK, CODES};
 use super::sender::{unprintable, Sender};
 use super::sound::{join_schedule_number, Batch, Payment, Place};
@@ -22,6 +23,9 @@ pub enum Change {
     OtherKind(char),
     AnyCode,
     OtherId,
+    /// 02 W3: the ID of a detail, DX, DT or DP at another place, and with a blank inside.
+    MovedId,
+    SplitId,
     LowByte,
     /// A byte below 40 in a filler, which is never looked at.
     LowFiller,
@@ -183,7 +187,7 @@ impl Aim<'_> {
         let letter = char::from(self.random.pick(ALL.as_bytes()));
         let few = [SwapWith(place), Insert(code), Recode(code), OtherKind(letter)];
         let many = [
-            Delete, Double, SwapNext, AnyCode, OtherId, LowByte, LowFiller, LowBorder, LowBorder, AnyBytes,
+            Delete, Double, SwapNext, AnyCode, OtherId, MovedId, SplitId, LowByte, LowFiller, LowBorder, LowBorder, AnyBytes,
         ];
         self.random.rarely(4, self.random.pick(&few), self.random.pick(&many))
     }
@@ -275,8 +279,10 @@ impl Target<'_> {
     fn break_field(&mut self, at: Place, field: u64, way: Way, joined: bool, random: &Random) {
         let Some(index) = self.find(at) else { return };
         let earlier = match (way, at) {
-            (Way::Repeat, Place::Header(batch)) => self.find(Place::Header(random.index(batch.max(1)))),
-            (Way::Repeat, Place::Detail(batch, payment)) => self.find(Place::Detail(batch, random.index(payment.max(1)))),
+            (Way::Repeat | Way::RepeatMoved, Place::Header(batch)) => self.find(Place::Header(random.index(batch.max(1)))),
+            (Way::Repeat | Way::RepeatMoved, Place::Detail(batch, payment)) => {
+                self.find(Place::Detail(batch, random.index(payment.max(1))))
+            }
             _ => None,
         };
         if let Some(earlier) = earlier {
@@ -284,7 +290,7 @@ impl Target<'_> {
             set(self.record(index), field, &value);
         }
         let book = self.book;
-        break_bytes(&mut self.record(index)[place(field)], way, book, random);
+        break_field(self.record(index), field, way, book, random);
         if joined {
             self.join(at, index, field);
         }
@@ -306,14 +312,13 @@ impl Target<'_> {
         }
     }
 
-    /// 01 Detail: field 23 of DC is the header's 18, then 58, then eight blanks.
+    /// 01 Detail: field 23 of DC is the header's 18, then 58, each corrected (02 W3), then eight blanks.
     fn join_check(&mut self, detail: Place) {
         let Place::Detail(batch, _) = detail else { return };
         let (Some(header), Some(index)) = (self.find(Place::Header(batch)), self.find(detail)) else {
             return;
         };
-        let mut id = of(self.record(header), 18).to_vec();
-        id.extend_from_slice(of(self.record(index), 58));
+        let id = [corrected(self.record(header), 18), corrected(self.record(index), 58)].concat();
         set(self.record(index), 23, &id);
         self.join_ids(detail);
     }
@@ -368,6 +373,11 @@ impl Target<'_> {
             Change::OtherKind(letter) => self.other_kind(at, letter),
             Change::AnyCode => random.fill_text(&mut self.record(index)[..2]),
             Change::OtherId => self.record(index)[2 + random.index(20)] = random.byte(BLANK, 0xFF),
+            Change::MovedId | Change::SplitId if !matches!(at, Place::Detail(..) | Place::Sub(..)) => {}
+            Change::MovedId => {
+                EBCDIC.move_value(&mut self.record(index)[place(23)], Justified::Text, random);
+            }
+            Change::SplitId => split(&mut self.record(index)[place(23)], Justified::Text, random),
             Change::LowByte | Change::LowFiller | Change::LowBorder => {
                 low_byte(self.record(index), change, random);
                 self.join_ids(at);

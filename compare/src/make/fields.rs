@@ -1,6 +1,7 @@
 //! Each field that 01 has a rule for: what a sound record holds there, and ways to break it.
 
 use super::book::{near, Book, BETC, COUNTRIES, CURRENCIES, INPUT_SYSTEMS, LOCATIONS, PAYMENT_TYPES, STATES};
+use super::justify::{justified, Justified, EBCDIC};
 use super::record::{read_number, set, set_text, write_number, write_text, BLANK};
 use crate::layout::place;
 use crate::random::Random;
@@ -45,6 +46,16 @@ pub enum Way {
     CodeOf(usize),
     /// The value of an earlier header or detail.
     Repeat,
+    /// 02 W3: that value at another place.
+    RepeatMoved,
+    /// The same value at another place.
+    Moved,
+    /// A blank inside.
+    Split,
+    /// By one byte, so that one at the end is lost.
+    Shifted,
+    /// A byte that is no blank in place of one beside the value, as only 40 is one.
+    NoBlankBeside,
 }
 
 pub struct Rule {
@@ -69,63 +80,75 @@ const fn rule(field: u64, letters: &'static str, sound: Sound, ways: &'static [W
 
 pub const ALL: &str = "NCWIA";
 const VOUCHER: &str = "NWIA";
-const NUMBER: &[Way] = &[Blank, NonDigit, NonDigit, OneBlank, AnyDigits];
-const SUM: &[Way] = &[Blank, NonDigit, OneBlank, Step, Step, Step, Zeros];
-const DATE: &[Way] = &[Blank, NoDate, NoDate, AnyDate, NonDigit, OneByte];
-const ROUTING: &[Way] = &[Blank, NonDigit, OneBlank, Prefix, Prefix, Zeros];
-const REQUIRED: &[Way] = &[Blank, Blank, Blank, AnyText];
+#[rustfmt::skip]
+const NUMBER: &[Way] = &[Blank, NonDigit, NonDigit, OneBlank, AnyDigits, Moved, Split, Split, Shifted, NoBlankBeside];
+#[rustfmt::skip]
+const SUM: &[Way] = &[Blank, NonDigit, OneBlank, Step, Step, Step, Zeros, Moved, Split, Shifted, NoBlankBeside];
+const DATE: &[Way] = &[Blank, NoDate, NoDate, AnyDate, NonDigit, OneByte, Shifted];
+#[rustfmt::skip]
+const ROUTING: &[Way] = &[Blank, NonDigit, OneBlank, Prefix, Prefix, Zeros, Moved, Split, Shifted, NoBlankBeside];
+const REQUIRED: &[Way] = &[Blank, Blank, Blank, AnyText, Moved];
+#[rustfmt::skip]
+const LABEL: &[Way] = &[Blank, Repeat, Repeat, RepeatMoved, RepeatMoved, OneByte, AnyText, Moved, Split, Shifted, NoBlankBeside];
 const FORMS: &[&str] = &["5515", "215"];
 const FUNCTIONS: &[&str] = &["CTR", "BTR", "CTP", "CKS", "DEP", "DRW", "DRC"];
 const MECHANISMS: &[&str] = &["Electronic", "Check", "Western Union", ""];
 
 /// 01 Header and Detail: what may not repeat.
-pub const LABEL_RULES: [Rule; 2] = [
-    rule(6, ALL, Elsewhere, &[Blank, Repeat, Repeat, Repeat, OneByte, AnyText]),
-    rule(23, ALL, Elsewhere, &[Blank, Repeat, Repeat, Repeat, OneByte, AnyText]),
-];
+pub const LABEL_RULES: [Rule; 2] = [rule(6, ALL, Elsewhere, LABEL), rule(23, ALL, Elsewhere, LABEL)];
 
 /// 01 Header, Detail and Others.
 #[rustfmt::skip]
 pub const BATCH_RULES: [Rule; 44] = [
-    rule(7, VOUCHER, NoBlank, &[Blank, OneBlank, Zeros, AnyText]),
+    rule(7, VOUCHER, NoBlank, &[Blank, OneBlank, Zeros, AnyText, Moved, Split, Shifted]),
     rule(8, VOUCHER, Date, DATE),
     rule(9, VOUCHER, Elsewhere, SUM),
-    rule(10, VOUCHER, List(FORMS), &[Blank, OneByte, NearByte, Value("0215"), Value(" 215"), Value("215"), Value("551"), Value("2155")]),
+    rule(10, VOUCHER, List(FORMS), &[Blank, OneByte, NearByte, Value("0215"), Value(" 215"), Value("215"), Value("551"), Value("2155"),
+        Value("21 5"), Shifted]),
     rule(12, "W", Routing, ROUTING),
     rule(13, "N", Routing, ROUTING),
-    rule(14, VOUCHER, Elsewhere, &[Blank, NearByte, OneByte, AnyText, Zeros, CodeOf(LOCATIONS), CodeOf(BETC)]),
+    rule(14, VOUCHER, Elsewhere, &[Blank, NearByte, OneByte, AnyText, Zeros, CodeOf(LOCATIONS), CodeOf(BETC), Moved, Split, Shifted,
+        NoBlankBeside]),
     rule(15, "C", Digits, NUMBER),
     rule(16, "C", List(&["0"]), &[Blank, Value("1"), OneByte, NearByte]),
     rule(17, "C", Date, DATE),
-    rule(18, "C", Elsewhere, &[Blank, NonDigit, OneBlank, Zeros, Value("0999"), Value("1000"), Value("9998"), Value("9999"), AnyDigits]),
-    rule(19, "C", Elsewhere, &[Blank, NonDigit, OneBlank, Step, Value("99999999"), AnyDigits]),
-    rule(20, "C", MonthYear, &[Blank, NonDigit, OneBlank, Month, Month]),
-    rule(24, VOUCHER, Elsewhere, &[Blank, NonDigit, OneBlank, Step, Zeros, Value("99999999999999999999")]),
-    rule(24, "C", Elsewhere, &[Blank, NonDigit, Step, Zeros, Value("00000000009999999999"), Value("00000000010000000000"), AnyDigits]),
+    rule(18, "C", Elsewhere, &[Blank, NonDigit, OneBlank, Zeros, Value("0999"), Value("1000"), Value("9998"), Value("9999"), AnyDigits,
+        Value(" 999"), Value("999"), Split, Shifted]),
+    rule(19, "C", Elsewhere, &[Blank, NonDigit, OneBlank, Step, Value("99999999"), AnyDigits, Moved, Split, Shifted, NoBlankBeside]),
+    rule(20, "C", MonthYear, &[Blank, NonDigit, OneBlank, Month, Month, Moved, Split, Shifted, Value(" 113"), Value("13")]),
+    rule(24, VOUCHER, Elsewhere, &[Blank, NonDigit, OneBlank, Step, Zeros, Value("99999999999999999999"), Moved, Moved, Split, Shifted,
+        NoBlankBeside]),
+    rule(24, "C", Elsewhere, &[Blank, NonDigit, Step, Zeros, Value("00000000009999999999"), Value("00000000010000000000"), AnyDigits,
+        Value("  9999999999"), Value("  10000000000"), Moved, Moved, Split, Shifted]),
     rule(25, "C", Elsewhere, &[Blank, Value("1"), Value("0"), Value("2"), OneByte, NearByte]),
     rule(26, ALL, Text, REQUIRED),
-    rule(28, ALL, Code(PAYMENT_TYPES), &[Blank, NearByte, OneByte, AnyText, CodeOf(PAYMENT_TYPES), CodeOf(LOCATIONS)]),
-    rule(29, "C", Elsewhere, &[Blank, NearByte, OneByte, AnyText, CodeOf(LOCATIONS), CodeOf(BETC)]),
-    rule(35, ALL, CodeOrBlank(STATES), &[NearByte, AnyText, CodeOf(COUNTRIES), OneBlank, Zeros, Blank]),
-    rule(36, ALL, PostalCode, &[NonDigit, OneBlank, AnyText, Zeros, Blank, AnyDigits]),
-    rule(38, ALL, CodeOrBlank(COUNTRIES), &[NearByte, AnyText, CodeOf(STATES), OneBlank, Zeros, Blank]),
+    rule(28, ALL, Code(PAYMENT_TYPES), &[Blank, NearByte, OneByte, AnyText, CodeOf(PAYMENT_TYPES), CodeOf(LOCATIONS), Moved, Split,
+        Shifted, NoBlankBeside]),
+    rule(29, "C", Elsewhere, &[Blank, NearByte, OneByte, AnyText, CodeOf(LOCATIONS), CodeOf(BETC), Moved, Split, Shifted, NoBlankBeside]),
+    rule(35, ALL, CodeOrBlank(STATES), &[NearByte, AnyText, CodeOf(COUNTRIES), OneBlank, Zeros, Blank, Moved, Shifted]),
+    rule(36, ALL, PostalCode, &[NonDigit, OneBlank, AnyText, Zeros, Blank, AnyDigits, Moved, Split, Shifted, Value(" 0"),
+        Value("    0"), Value("0 0"), Value("-0")]),
+    rule(38, ALL, CodeOrBlank(COUNTRIES), &[NearByte, AnyText, CodeOf(STATES), OneBlank, Zeros, Blank, Moved, Shifted]),
     rule(42, "W", Routing, ROUTING),
     rule(43, "N", Routing, ROUTING),
-    rule(44, "W", List(FUNCTIONS), &[Blank, OneByte, NearByte, OtherCase, Value("CTX"), Value("DRW"), Zeros]),
-    rule(48, "N", List(&["22", "32", "42", "52", "00", ""]), &[OneByte, NearByte, Zeros, OneBlank, Value("23"), Value("62"), Value("02"), Value("0")]),
-    rule(51, "I", List(MECHANISMS), &[OneByte, NearByte, OtherCase, Zeros, Blank, Value("Western"), Value(" Check"), Value("Checks")]),
-    rule(52, ALL, CodeOrBlank(CURRENCIES), &[NearByte, AnyText, Zeros, OneBlank, CodeOf(STATES), Blank]),
+    rule(44, "W", List(FUNCTIONS), &[Blank, OneByte, NearByte, OtherCase, Value("CTX"), Value("DRW"), Zeros, Shifted]),
+    rule(48, "N", List(&["22", "32", "42", "52", "00", ""]), &[OneByte, NearByte, Zeros, OneBlank, Value("23"), Value("62"),
+        Value("02"), Value("0"), Value(" 0"), Value(" 2"), Shifted]),
+    rule(51, "I", List(MECHANISMS), &[OneByte, NearByte, OtherCase, Zeros, Blank, Value("Western"), Value(" Check"), Value("Checks"),
+        Moved, Moved, Split, NoBlankBeside, Value("WesternUnion")]),
+    rule(52, ALL, CodeOrBlank(CURRENCIES), &[NearByte, AnyText, Zeros, OneBlank, CodeOf(STATES), Blank, Moved, Split, Shifted]),
     rule(54, "A", Text, REQUIRED),
     rule(55, "A", Text, REQUIRED),
     rule(56, "A", Date, DATE),
-    rule(58, "C", Elsewhere, &[Blank, NonDigit, OneBlank, Step, AnyDigits]),
+    rule(58, "C", Elsewhere, &[Blank, NonDigit, OneBlank, Step, AnyDigits, Moved, Split, Shifted, NoBlankBeside]),
     rule(59, "C", Date, DATE),
-    rule(62, "N", List(&["CCD", "PPD", "IAT", "CTX"]), &[Blank, OneByte, NearByte, OtherCase, Value("CTR"), Value("CTX")]),
+    rule(62, "N", List(&["CCD", "PPD", "IAT", "CTX"]), &[Blank, OneByte, NearByte, OtherCase, Value("CTR"), Value("CTX"), Shifted]),
     rule(66, ALL, Text, REQUIRED),
     rule(80, ALL, Text, REQUIRED),
     rule(84, ALL, Text, REQUIRED),
     rule(85, ALL, Text, REQUIRED),
-    rule(86, ALL, Elsewhere, &[Blank, NearByte, OneByte, AnyText, CodeOf(BETC), CodeOf(BETC), CodeOf(LOCATIONS)]),
+    rule(86, ALL, Elsewhere, &[Blank, NearByte, OneByte, AnyText, CodeOf(BETC), CodeOf(BETC), CodeOf(LOCATIONS), Moved, Split, Shifted,
+        NoBlankBeside]),
     rule(87, ALL, Elsewhere, SUM),
     rule(88, ALL, Elsewhere, &[Blank, Value("0"), Value("1"), OneByte]),
     rule(96, ALL, Elsewhere, SUM),
@@ -136,8 +159,9 @@ pub const BATCH_RULES: [Rule; 44] = [
 /// 01 File answers 8 to 13.
 #[rustfmt::skip]
 pub const FILE_RULES: [Rule; 5] = [
-    rule(2, ALL, Code(INPUT_SYSTEMS), &[Blank, OneByte, NearByte, AnyText, CodeOf(INPUT_SYSTEMS), CodeOf(PAYMENT_TYPES)]),
-    rule(3, ALL, List(&["201"]), &[Blank, OneByte, NearByte, Value("200"), Value("202"), Value("20"), Value("100"), Value("201")]),
+    rule(2, ALL, Code(INPUT_SYSTEMS), &[Blank, OneByte, NearByte, AnyText, CodeOf(INPUT_SYSTEMS), CodeOf(PAYMENT_TYPES), Moved, Split,
+        Shifted, NoBlankBeside]),
+    rule(3, ALL, List(&["201"]), &[Blank, OneByte, NearByte, Value("200"), Value("202"), Value("20"), Value("100"), Value("201"), Shifted]),
     rule(103, ALL, Elsewhere, SUM),
     rule(104, ALL, Elsewhere, SUM),
     rule(105, ALL, Elsewhere, SUM),
@@ -160,7 +184,11 @@ pub fn set_sound(record: &mut [u8], field: u64, sound: Sound, book: &Book, rando
     match sound {
         Elsewhere => {}
         Digits => space.fill_with(|| random.byte(0xF0, 0xF9)),
-        NoBlank => space.fill_with(|| random.byte(0x41, 0xFF)),
+        NoBlank => {
+            space.fill_with(|| random.byte(0x41, 0xFF));
+            let zeros = random.rarely(2, random.index(space.len() + 1), 0);
+            space[..zeros].fill(0xF0);
+        }
         Text => {
             space.fill(BLANK);
             if random.chance(3) {
@@ -209,7 +237,8 @@ fn write_date(bytes: &mut [u8], date: &str) {
     write_text(bytes, &date.replace(short, ""));
 }
 
-pub fn break_bytes(bytes: &mut [u8], way: Way, book: &Book, random: &Random) {
+pub fn break_field(record: &mut [u8], field: u64, way: Way, book: &Book, random: &Random) {
+    let bytes = &mut record[place(field)];
     let at = random.index(bytes.len());
     match way {
         Blank => bytes.fill(BLANK),
@@ -246,5 +275,41 @@ pub fn break_bytes(bytes: &mut [u8], way: Way, book: &Book, random: &Random) {
             bytes.iter_mut().zip(code).for_each(|(byte, code)| *byte = *code);
         }
         Repeat => {}
+        RepeatMoved | Moved => {
+            EBCDIC.move_value(bytes, justified(field), random);
+        }
+        Split => split(bytes, justified(field), random),
+        Shifted if random.chance(2) => {
+            bytes.rotate_left(1);
+            bytes[bytes.len() - 1] = BLANK;
+        }
+        Shifted => {
+            bytes.rotate_right(1);
+            bytes[0] = BLANK;
+        }
+        NoBlankBeside => {
+            let value = EBCDIC.least(bytes, justified(field)).to_vec();
+            let room = bytes.len() - value.len();
+            let blanks = random.index(room + 1);
+            EBCDIC.put(bytes, blanks, 0, &value);
+            let beside = random.pick(&[blanks.wrapping_sub(1), blanks + value.len()]);
+            let byte = random.pick(&[0x41, 0x41, 0x60, 0xFF, 0x3F]);
+            bytes.get_mut(beside).into_iter().for_each(|place| *place = byte);
+        }
+    }
+}
+
+/// A blank inside the value, which may then stand anywhere; where it fills its field, one of its bytes is lost.
+pub fn split(bytes: &mut [u8], justified: Justified, random: &Random) {
+    let value = match EBCDIC.least(bytes, justified) {
+        digit @ [_] if justified != Justified::Text => [&[0xF0], digit].concat(),
+        value => value.to_vec(),
+    };
+    if value.len() > 1 {
+        let at = 1 + random.index(value.len() - 1);
+        let (left, right) = value.split_at(at);
+        let right = if value.len() < bytes.len() { right } else { &right[1..] };
+        let value = [left, &[BLANK], right].concat();
+        EBCDIC.put(bytes, random.index(bytes.len() - value.len() + 1), 0, &value);
     }
 }

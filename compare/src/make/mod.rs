@@ -3,6 +3,7 @@
 pub mod book;
 pub mod damage;
 pub mod fields;
+pub mod justify;
 pub mod record;
 pub mod sender;
 pub mod sound;
@@ -13,8 +14,9 @@ use std::fmt::Write;
 use crate::ascii::ASCII_FH;
 use crate::layout::{FIELDS, RECORD};
 use crate::random::{mix, Random};
-use book::{random_book, write_damaged, Book, BookDamage, BETC, LARGEST};
+use book::{move_codes, random_book, write_damaged, Book, BookDamage, BETC, LARGEST};
 use damage::{Damage, Planned, Target, When};
+use justify::{move_record, Moves, Page, TOTALS};
 use sender::{printable, turn, Sender, CAREFUL};
 use sound::{Batch, Place, Style, Writer};
 
@@ -25,6 +27,8 @@ pub enum Piece {
     Record(Place),
     /// What turns the file into ASCII.
     Ascii,
+    /// What moves values within their fields.
+    Moves,
 }
 
 /// All that is drawn for one input.
@@ -34,6 +38,7 @@ pub struct Recipe {
     style: Style,
     batches: Vec<Batch>,
     damages: Vec<Planned>,
+    moves: Option<Moves>,
     /// Any bytes in place of the records.
     any_bytes: Option<usize>,
     large_book: Option<usize>,
@@ -41,12 +46,20 @@ pub struct Recipe {
     report_beside: isize,
 }
 
-#[derive(Default)]
+#[derive(Default, Clone)]
 pub struct Input {
     pub file: Vec<u8>,
     pub book: Vec<u8>,
     pub report: Vec<u8>,
     places: Vec<Place>,
+}
+
+impl Input {
+    /// 02 W3: moves every field of the file and every code of the book; gives how many of each have other bytes now.
+    pub fn move_all(&mut self, seed: u64) -> (u64, u64) {
+        let moves = Moves::all(seed);
+        (move_records(self, Some(moves), |_| true), move_book(self, moves))
+    }
 }
 
 /// Inputs about the limits of 65,535 records and 16,777,216 bytes of book: last four bits of the seed, index modulo 20,000. The last two
@@ -93,16 +106,24 @@ impl Recipe {
         if large == 0 {
             damages.extend(damage::plan_in_ascii(&batches, sender, random));
         }
+        // Few batches of planned kinds are drawn, and their DT have many fields to move.
+        let has_kinds = batches.iter().any(|batch| batch.kinds.is_some());
+        let moves = Moves::new(if has_kinds { 4 } else { 2 }, random);
         Recipe {
             seed,
             sender,
             style,
             batches,
             damages,
+            moves,
             any_bytes,
             large_book,
             report_beside,
         }
+    }
+
+    pub fn seed(&self) -> u64 {
+        self.seed
     }
 
     pub fn pieces(&self) -> Vec<Piece> {
@@ -116,6 +137,7 @@ impl Recipe {
         }
         pieces.extend(records.into_iter().map(Piece::Record));
         pieces.extend((self.sender != Sender::Ebcdic).then_some(Piece::Ascii));
+        pieces.extend(self.moves.map(|_| Piece::Moves));
         pieces
     }
 
@@ -137,6 +159,9 @@ impl Recipe {
             Some(size) => book.write_large(size, &mut input.book),
             None => write_damaged(&book, &self.book_damages(dropped), &mut input.book),
         }
+        if let Some(moves) = self.moves(dropped).filter(|moves| moves.book) {
+            move_book(input, moves);
+        }
         let batches = input.places.iter().filter(|place| matches!(place, Place::Header(_))).count();
         let size = (64 * (1 + batches) as isize + self.report_beside).max(0);
         input.report.resize(size as usize, 0);
@@ -153,12 +178,21 @@ impl Recipe {
             input,
         }
         .write(&self.batches, random);
+        let (early, late) = match self.moves(dropped) {
+            Some(moves) if moves.early => (Some(moves), None),
+            moves => (None, moves),
+        };
+        move_records(input, early, |field| !TOTALS.contains(&field));
         for when in [When::BeforeTotals, When::AfterTotals, When::InAscii, When::AtTheEnd] {
             if when == When::AfterTotals {
                 record::finish(&mut input.file);
+                move_records(input, early, |field| TOTALS.contains(&field));
             }
             if self.sender.turns_before(when) {
                 self.turn(dropped, &mut input.file);
+            }
+            if when == When::InAscii {
+                move_records(input, late, |_| true);
             }
             let damages = self.kept(dropped).filter(|planned| planned.when == when);
             damages.for_each(|planned| Target { input, book }.apply(planned));
@@ -170,6 +204,10 @@ impl Recipe {
                 input.file.iter_mut().zip(ASCII_FH).for_each(|(byte, start)| *byte = start);
             }
         }
+    }
+
+    fn moves(&self, dropped: &HashSet<Piece>) -> Option<Moves> {
+        self.moves.filter(|_| !dropped.contains(&Piece::Moves))
     }
 
     fn turn(&self, dropped: &HashSet<Piece>, file: &mut [u8]) {
@@ -203,7 +241,7 @@ impl Recipe {
         } else {
             self.sender
         };
-        let _ = writeln!(text, "{sender:?}, {:?}", self.style);
+        let _ = writeln!(text, "{sender:?}, {:?}, {:?}", self.moves(dropped), self.style);
         let stays = |place| !dropped.contains(&Piece::Record(place));
         let batches = self.batches.iter().enumerate();
         for (batch, plan) in batches.filter(|(batch, _)| stays(Place::Header(*batch))) {
@@ -233,4 +271,17 @@ impl Recipe {
         }
         text
     }
+}
+
+/// 02 W3: moves the fields that are wanted, and gives how many. Each record has its own draws, which stay when others are dropped.
+fn move_records(input: &mut Input, moves: Option<Moves>, is_wanted: fn(u64) -> bool) -> u64 {
+    let Some(moves) = moves else { return 0 };
+    let page = Page::of(&input.file);
+    let records = input.file.chunks_exact_mut(RECORD).zip(&input.places);
+    let moved = records.map(|(record, place)| move_record(record, page, moves.of, is_wanted, &moves.draws(place.number())));
+    moved.sum()
+}
+
+fn move_book(input: &mut Input, moves: Moves) -> u64 {
+    move_codes(&mut input.book, moves.of, &moves.draws(0))
 }

@@ -2,7 +2,8 @@
 
 use std::ops::RangeInclusive;
 
-use crate::layout::{of, place, FILLERS, RECORD};
+use super::justify::corrected;
+use crate::layout::{place, FILLERS, RECORD};
 use crate::random::{lift, Random};
 
 pub const BLANK: u8 = 0x40;
@@ -116,8 +117,8 @@ pub fn finish(file: &mut [u8]) {
         match code_of(record) {
             "BN" | "BC" | "BW" | "BI" | "BA" => (header, batch_payments, batch_total) = (start, 0, 0),
             "DN" | "DC" | "DW" | "DI" | "DA" => {
-                // 01 File answers: an amount that is not 20 digits counts as zero in every sum.
-                let amount = read_number(of(record, 24)).unwrap_or(0);
+                // 01 File answers: an amount that is not 20 digits, once corrected (02 W3), counts as zero in every sum.
+                let amount = read_number(&corrected(record, 24)).unwrap_or(0);
                 (payments, total) = (payments + 1, total + amount);
                 (batch_payments, batch_total) = (batch_payments + 1, batch_total + amount);
             }

@@ -4,6 +4,7 @@ use std::collections::HashSet;
 
 use super::book::{Book, BETC, LOCATIONS};
 use super::fields::{set_code, set_sound, ALL, BATCH_RULES, FILE_RULES};
+use super::justify::corrected;
 use super::record::{add_noise, add_record, ebcdic, fields_of, set, set_number, set_text, write_number, BLANK, MOST};
 use super::{Input, Piece};
 use crate::ascii::CODE_PAGE_037;
@@ -65,6 +66,23 @@ pub enum Place {
     Sub(usize, usize, usize),
     Trailer(usize),
     FileTrailer,
+}
+
+impl Place {
+    /// One of its own.
+    pub fn number(self) -> u64 {
+        let [kind, batch, payment, sub] = match self {
+            Place::FileHeader => [1, 0, 0, 0],
+            Place::Header(batch) => [2, batch, 0, 0],
+            Place::Detail(batch, payment) => [3, batch, payment, 0],
+            Place::Sub(batch, payment, sub) => [4, batch, payment, sub],
+            Place::Trailer(batch) => [5, batch, 0, 0],
+            Place::FileTrailer => [6, 0, 0, 0],
+        };
+        [batch, payment, sub]
+            .into_iter()
+            .fold(kind as u64, |number, part| number << 20 | part as u64)
+    }
 }
 
 /// The kinds of one file's batches; 01 Nesting: BC stands with no other.
@@ -290,7 +308,9 @@ impl<'a> Accounts<'a> {
         let mut fields = [BLANK; 24];
         match random.chance(3) {
             true => random.fill_text(&mut fields),
-            false if reporter => fields.fill(0xF0),
+            false if reporter && random.chance(2) => fields.fill(0xF0),
+            // 02 W3: with room to move.
+            false if reporter => (78..=85).for_each(|field| fields[place(field).start - place(78).start] = 0xF0),
             false => {}
         }
         let (one, other) = (random.index(24), 1 + random.index(23));
@@ -400,7 +420,11 @@ impl<'a> Writer<'a> {
         let random = &Random::new(batch.seed);
         let symbol = random.rarely(8, random.pick(&[1000, 9998]), random.between(1000, 9998));
         let last = 100_000_000 - batch.payments.len() as u64;
-        let first_serial = random.rarely(5, random.pick(&[last, last, last + 1, 0]), random.below(last));
+        let first_serial = random.rarely(
+            5,
+            random.pick(&[last, last, last + 1, 0]),
+            random.below(random.pick(&[last, last, 1_000])),
+        );
         self.header(number, batch, u128::from(symbol), u128::from(first_serial), random);
         let accounts = batch.kinds.map(|kinds| Accounts::new(batch, kinds, self.book, self.printable));
         let (mut serial, mut tas) = (first_serial, 0);
@@ -562,8 +586,8 @@ fn is_credit(code: &Betc) -> bool {
     code.is_some_and(|(_, flag)| flag == 1)
 }
 
-/// 01 Header: field 6 of BC is fields 18 and 19 and two blanks.
+/// 01 Header: field 6 of BC is fields 18 and 19, each corrected (02 W3), and two blanks.
 pub fn join_schedule_number(header: &mut [u8]) {
-    let joined = header[place(18).start..place(19).end].to_vec();
+    let joined = [corrected(header, 18), corrected(header, 19)].concat();
     set(header, 6, &joined);
 }
