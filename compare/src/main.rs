@@ -1,4 +1,5 @@
-//! Compares the two judges on inputs made from seeds: `compare [N [SEED]]`, or `compare --one INPUT_SEED [--write DIR]`.
+//! Compares the two judges on inputs made from seeds: `compare [N [SEED]]`, or `compare --one INPUT_SEED [--write DIR]`. Each input is
+//! judged twice: as it is, and with every value moved within its field (02 W3), which must draw the same answer and the same report.
 
 use std::collections::{BTreeMap, HashSet};
 use std::panic::{catch_unwind, AssertUnwindSafe};
@@ -10,7 +11,9 @@ use std::{env, fs, io, thread};
 
 use compare::ascii::{is_ascii, to_ascii, to_ebcdic, translated, ASCII_FH};
 use compare::layout::{of, RECORD};
-use compare::make::record::code_of;
+use compare::make::book::codes_ascend;
+use compare::make::justify::{corrected, justified, Justified, EBCDIC};
+use compare::make::record::{code_of, fields_of, BLANK};
 use compare::make::{input_seed, Input, Piece, Recipe};
 use compare::{judge, proved};
 
@@ -145,17 +148,125 @@ fn has_unprintable(file: &[u8]) -> bool {
     file.iter().any(|&byte| to_ascii(to_ebcdic(byte)).is_none())
 }
 
-/// Whether a Payment ID of a well nested file in ASCII is not byte for byte its detail's.
+/// Whether a Payment ID of a well nested file in ASCII is not byte for byte its detail's, wherever it stands in its field.
 fn has_ids_apart(file: &[u8]) -> bool {
     let mut id: &[u8] = &[];
     file.chunks_exact(RECORD).any(|record| {
         match code_of(&[record[0], record[1]].map(to_ebcdic)) {
-            "DN" | "DC" | "DW" | "DI" | "DA" => id = of(record, 23),
-            "DX" | "DT" | "DP" => return of(record, 65) != id,
+            "DN" | "DC" | "DW" | "DI" | "DA" => id = of(record, 23).trim_ascii(),
+            "DX" | "DT" | "DP" => return of(record, 65).trim_ascii() != id,
             _ => {}
         }
         false
     })
+}
+
+/// A file, translated if it is in ASCII, its book and its answer.
+struct Seen<'a> {
+    file: &'a [u8],
+    book: &'a [u8],
+    answer: u64,
+}
+
+/// Inputs in words, and whether one of them was seen.
+type Inputs = (&'static str, fn(&Seen) -> bool);
+
+/// 02 W3: inputs about the places of values in their fields.
+#[rustfmt::skip]
+const ABOUT_PLACES: [Inputs; 11] = [
+    ("numbers with blanks before them, accepted", |seen| seen.answer == 0 && seen.has_number([true, false])),
+    ("numbers with blanks after them, accepted", |seen| seen.answer == 0 && seen.has_number([false, true])),
+    ("numbers between blanks, accepted", |seen| seen.answer == 0 && seen.has_number([true, true])),
+    ("text with blanks before it, accepted", |seen| seen.answer == 0 && seen.has(|field, bytes| justified(field) == Justified::Text && begins_late(bytes))),
+    ("field 7 with blanks beside it, accepted", |seen| seen.answer == 0 && seen.has(|field, bytes| field == 7 && is_beside_blanks(bytes))),
+    ("IDs of a payment at two places, accepted", |seen| seen.answer == 0 && seen.has_two_places(&["DX", "DT", "DP"], 65, |code| code[..1] == *"D" && !matches!(code, "DX" | "DT" | "DP"))),
+    ("IDs that repeat at another place, accepted", |seen| seen.answer == 0 && seen.has_two_places(&["DN", "DC", "DW", "DI", "DA"], 23, |code| code == "BT")),
+    ("schedule numbers so, accepted", |seen| seen.answer == 0 && seen.has_two_places(&["BN", "BC", "BW", "BI", "BA"], 6, |_| false)),
+    ("1,001 contents but not kinds, accepted", |seen| seen.answer == 0 && seen.has_fewer_kinds()),
+    ("book ascends once corrected alone, accepted", |seen| seen.answer == 0 && !codes_ascend(seen.book, as_they_stand)),
+    ("book ascends as it stands alone, 4", |seen| seen.answer == 400_000 && codes_ascend(seen.book, as_they_stand) && !codes_ascend(seen.book, moved_left)),
+];
+
+fn about_places_words(about: &str, column: &str) -> String {
+    format!("{about}, in {column}")
+}
+
+/// The columns of a line about places.
+const PAGES: [&str; 2] = ["EBCDIC", ASCII];
+
+fn begins_late(bytes: &[u8]) -> bool {
+    bytes[0] == BLANK && !EBCDIC.value(bytes).is_empty()
+}
+
+/// Whether blanks stand beside a value without a blank inside.
+fn is_beside_blanks(bytes: &[u8]) -> bool {
+    let value = EBCDIC.value(bytes);
+    !value.is_empty() && value.len() < bytes.len() && !value.contains(&BLANK)
+}
+
+fn as_they_stand(code: &[u8]) -> Vec<u8> {
+    code.to_vec()
+}
+
+fn moved_left(code: &[u8]) -> Vec<u8> {
+    let mut moved = code.to_vec();
+    EBCDIC.put(&mut moved, 0, 0, EBCDIC.value(code));
+    moved
+}
+
+impl Seen<'_> {
+    fn records(&self) -> impl Iterator<Item = (&'static str, &[u8])> {
+        self.file.chunks_exact(RECORD).map(|record| (code_of(record), record))
+    }
+
+    /// Whether it has such a field.
+    fn has(&self, is_so: impl Fn(u64, &[u8]) -> bool) -> bool {
+        self.records()
+            .any(|(code, record)| fields_of(code).any(|field| is_so(field, of(record, field))))
+    }
+
+    /// Whether it has a number with blanks before and after its digits, or not, as asked.
+    fn has_number(&self, asked: [bool; 2]) -> bool {
+        let blanks = |bytes: &[u8]| [bytes[0], bytes[bytes.len() - 1]].map(|byte| byte == BLANK);
+        self.has(|field, bytes| {
+            let is_number = justified(field) == Justified::Number && EBCDIC.is_padded(EBCDIC.value(bytes), Justified::Number);
+            is_number && blanks(bytes) == asked
+        })
+    }
+
+    /// Whether the same value stands at two places of this field in records of these codes, of which none that ends a stretch is between.
+    fn has_two_places(&self, codes: &[&str], field: u64, is_end: fn(&str) -> bool) -> bool {
+        let mut first_places = BTreeMap::new();
+        self.records().any(|(code, record)| {
+            if is_end(code) {
+                first_places.clear();
+            }
+            let bytes = of(record, field);
+            codes.contains(&code) && *first_places.entry(EBCDIC.value(bytes)).or_insert(bytes) != bytes
+        })
+    }
+
+    /// 02 W1: whether a batch has more than 1,000 contents of positions 23 to 54, but not more than 1,000 kinds.
+    fn has_fewer_kinds(&self) -> bool {
+        let kind = |tas: &[u8]| (78..=86).flat_map(|field| corrected(tas, field)).collect::<Vec<_>>();
+        let (mut contents, mut kinds) = (HashSet::new(), HashSet::new());
+        self.file.len() > 1_000 * RECORD
+            && self.records().any(|(code, record)| {
+                match code {
+                    "DT" => {
+                        contents.insert(&record[22..54]);
+                        kinds.insert(kind(record));
+                    }
+                    "BT" if contents.len() > 1_000 && kinds.len() <= 1_000 => return true,
+                    "BT" => {
+                        contents.clear();
+                        kinds.clear();
+                    }
+                    _ => {}
+                }
+                false
+            })
+    }
 }
 
 impl Counts {
@@ -163,7 +274,8 @@ impl Counts {
         *self.0.entry(key).or_default() += count;
     }
 
-    fn count(&mut self, answer: u64, file: &[u8], report: &[u8]) {
+    fn count(&mut self, trial: &Trial) {
+        let (answer, file, report) = (trial.verdicts.proved, &trial.input.file[..], lent(&trial.verdicts.proved_space));
         self.add(answer_words(answer / 100_000), 1);
         if is_ascii(file) {
             self.add(ascii_answer_words(answer / 100_000), 1);
@@ -171,8 +283,25 @@ impl Counts {
         for (about, _) in ABOUT_ASCII.iter().filter(|(_, is_so)| is_so(file, answer)) {
             self.add(about_ascii_words(about), 1);
         }
+        let (translated, page) = (translated(file), PAGES[usize::from(is_ascii(file))]);
         if answer == 0 {
-            self.count_rows(is_ascii(file), &translated(file), report);
+            self.count_rows(is_ascii(file), &translated, report);
+        }
+        self.count_places(trial, &translated, page);
+    }
+
+    fn count_places(&mut self, trial: &Trial, file: &[u8], page: &str) {
+        let seen = &Seen {
+            file,
+            book: &trial.input.book,
+            answer: trial.verdicts.proved,
+        };
+        for (about, _) in ABOUT_PLACES.iter().filter(|(_, is_so)| is_so(seen)) {
+            self.add(about_places_words(about, page), 1);
+        }
+        let (fields, codes) = trial.moved_values;
+        for (about, count) in MOVED_AT_RANDOM.iter().zip([u64::from(fields + codes > 0), fields, codes]) {
+            self.add(about_places_words(about, page), count);
         }
     }
 
@@ -185,6 +314,16 @@ impl Counts {
                     self.add(many_tas_words(OF_MANY_TAS[usize::from(reason > 0)], column), 1);
                 }
             }
+        }
+    }
+
+    fn print_places(&mut self, lines: &[&str], not_seen: &mut Vec<String>) {
+        for about in lines {
+            print!("{about:>44}");
+            for page in PAGES {
+                print!("   {page} {:>8}", self.take(about_places_words(about, page), not_seen));
+            }
+            println!();
         }
     }
 
@@ -227,10 +366,17 @@ impl Counts {
         for (about, _) in ABOUT_ASCII {
             println!("{about:>40} {:>6}", self.take(about_ascii_words(about), &mut not_seen));
         }
+        println!("inputs about the places of values in their fields:");
+        self.print_places(&ABOUT_PLACES.map(|(about, _)| about), &mut not_seen);
+        println!("moved at random, and judged as before by both:");
+        self.print_places(&MOVED_AT_RANDOM, &mut not_seen);
         println!("not seen: {}", listed(not_seen));
         println!("seen, but not allowed: {}", listed(self.0.into_keys().collect()));
     }
 }
+
+/// 02 W3: what was moved of every input, to be judged once more.
+const MOVED_AT_RANDOM: [&str; 3] = ["inputs with a value moved", "fields moved", "codes of the book moved"];
 
 fn listed(list: Vec<String>) -> String {
     if list.is_empty() {
@@ -295,6 +441,44 @@ impl Verdicts {
         let whole = guards.as_flattened().iter().all(|guard| **guard == [0xA5; GUARD]);
         (!whole).then(|| "a byte beside the report space was changed".to_string())
     }
+
+    /// In words, what is not as in the other verdicts on the same value.
+    fn change_from(&self, other: &Verdicts) -> Option<String> {
+        if (self.proved, self.independent) != (other.proved, other.independent) {
+            return Some(format!("answers: {}, before {}", self.proved, other.proved));
+        }
+        let same = self.proved_space == other.proved_space && self.independent_space == other.independent_space;
+        (!same).then(|| "the reports are not as before".to_string())
+    }
+}
+
+/// An input with what both judges made of it, and the same for the input with every value moved at random (02 W3).
+#[derive(Default)]
+struct Trial {
+    input: Input,
+    verdicts: Verdicts,
+    moved: Input,
+    verdicts_moved: Verdicts,
+    /// Fields of the file and codes of the book that have other bytes in the moved input.
+    moved_values: (u64, u64),
+}
+
+impl Trial {
+    fn run(&mut self, recipe: &Recipe, dropped: &HashSet<Piece>) {
+        recipe.make(dropped, &mut self.input);
+        self.verdicts.judge(&self.input);
+        self.moved.clone_from(&self.input);
+        self.moved_values = self.moved.move_all(recipe.seed());
+        self.verdicts_moved.judge(&self.moved);
+    }
+
+    /// In words, the first thing that is not as it must be, with the input as it is and with its values moved.
+    fn difference(&self) -> Option<String> {
+        let of_moved = self.verdicts_moved.difference(&self.moved);
+        let of_moved = of_moved.or_else(|| self.verdicts_moved.change_from(&self.verdicts));
+        let of_moved = of_moved.map(|words| format!("with every value moved at random: {words}"));
+        self.verdicts.difference(&self.input).or(of_moved)
+    }
 }
 
 /// The report space between its guards.
@@ -311,16 +495,15 @@ fn print_verdict(judge: &str, answer: Option<u64>, space: &[u8]) {
 
 /// Drops pieces one by one while a difference stays.
 fn shrink(recipe: &Recipe) -> HashSet<Piece> {
-    let (mut input, mut verdicts, mut dropped) = (Input::default(), Verdicts::default(), HashSet::new());
+    let (mut trial, mut dropped) = (Trial::default(), HashSet::new());
     let mut judged = 0;
     loop {
         let before = dropped.len();
         for piece in recipe.pieces() {
             if judged < SHRINKING && dropped.insert(piece) {
-                recipe.make(&dropped, &mut input);
-                judged += 1 + input.file.len() / RECORD;
-                verdicts.judge(&input);
-                if verdicts.difference(&input).is_none() {
+                trial.run(recipe, &dropped);
+                judged += 1 + trial.input.file.len() / RECORD;
+                if trial.difference().is_none() {
                     dropped.remove(&piece);
                 }
             }
@@ -331,17 +514,26 @@ fn shrink(recipe: &Recipe) -> HashSet<Piece> {
     }
 }
 
-fn show(seed: u64, recipe: &Recipe, dropped: &HashSet<Piece>) -> Input {
-    let (mut input, mut verdicts) = (Input::default(), Verdicts::default());
-    recipe.make(dropped, &mut input);
-    verdicts.judge(&input);
+fn show(seed: u64, recipe: &Recipe, dropped: &HashSet<Piece>) -> Trial {
+    let mut trial = Trial::default();
+    trial.run(recipe, dropped);
+    let Trial { input, verdicts, .. } = &trial;
     let (file, book, report) = (input.file.len(), input.book.len(), input.report.len());
     println!("input seed {seed}: file {file} bytes, book {book} bytes, report {report} bytes");
     print!("{}", recipe.describe(dropped));
     print_verdict("proved", Some(verdicts.proved), &verdicts.proved_space);
     print_verdict("independent", verdicts.independent, &verdicts.independent_space);
-    println!("difference: {}", verdicts.difference(&input).unwrap_or("none".to_string()));
-    input
+    if verdicts.difference(input).is_none() && trial.difference().is_some() {
+        println!("with every value moved at random:");
+        print_verdict("proved", Some(trial.verdicts_moved.proved), &trial.verdicts_moved.proved_space);
+        print_verdict(
+            "independent",
+            trial.verdicts_moved.independent,
+            &trial.verdicts_moved.independent_space,
+        );
+    }
+    println!("difference: {}", trial.difference().unwrap_or("none".to_string()));
+    trial
 }
 
 struct Run {
@@ -356,18 +548,17 @@ struct Run {
 impl Run {
     /// Judges every `THREADS`th input from `start` on, up to the first difference.
     fn part(&self, start: u64) -> Counts {
-        let (mut input, mut verdicts, mut counts) = (Input::default(), Verdicts::default(), Counts::default());
+        let (mut trial, mut counts) = (Trial::default(), Counts::default());
         for index in (start..self.inputs).step_by(THREADS as usize) {
             if index > self.first.load(Relaxed) {
                 break;
             }
-            Recipe::new(input_seed(self.seed, index)).make(&HashSet::new(), &mut input);
-            verdicts.judge(&input);
-            if verdicts.difference(&input).is_some() {
+            trial.run(&Recipe::new(input_seed(self.seed, index)), &HashSet::new());
+            if trial.difference().is_some() {
                 self.first.fetch_min(index, Relaxed);
                 break;
             }
-            counts.count(verdicts.proved, &input.file, lent(&verdicts.proved_space));
+            counts.count(&trial);
             let done = self.done.fetch_add(1, Relaxed) + 1;
             if done.is_multiple_of(10_000) {
                 eprintln!("{done} inputs, {:.0} a second", done as f64 / self.begun.elapsed().as_secs_f64());
@@ -410,18 +601,20 @@ fn run(inputs: u64, seed: u64) -> ExitCode {
 }
 
 fn one(seed: u64, folder: Option<&str>) -> ExitCode {
-    let input = show(seed, &Recipe::new(seed), &HashSet::new());
-    if let Some(Err(error)) = folder.map(|folder| write(Path::new(folder), &input)) {
+    let trial = show(seed, &Recipe::new(seed), &HashSet::new());
+    if let Some(Err(error)) = folder.map(|folder| write(Path::new(folder), &trial)) {
         eprintln!("{error}");
         return ExitCode::FAILURE;
     }
     ExitCode::SUCCESS
 }
 
-fn write(folder: &Path, input: &Input) -> io::Result<()> {
+fn write(folder: &Path, Trial { input, moved, .. }: &Trial) -> io::Result<()> {
     fs::create_dir_all(folder)?;
     fs::write(folder.join("file.bin"), &input.file)?;
     fs::write(folder.join("book.bin"), &input.book)?;
+    fs::write(folder.join("moved-file.bin"), &moved.file)?;
+    fs::write(folder.join("moved-book.bin"), &moved.book)?;
     fs::write(folder.join("report-size"), format!("{}\n", input.report.len()))
 }
 
