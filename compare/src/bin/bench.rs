@@ -1,7 +1,7 @@
 //! The proved judge, the independent judge and a bare scan on the same large files: `bench [RECORDS...]`, default 1,000, 8,000 and 65,535.
 //! Each time is the best of nine rounds, in each of which every contestant has its turn, so that all see the same machine. A file whose
 //! bytes all have a character is then measured once more in ASCII (02 W2), in rounds of its own, so that neither drives the other from the
-//! caches.
+//! caches. An ordinary file is then measured once more, both ways, with every field moved (02 W3).
 
 use std::collections::BTreeSet;
 use std::hint::black_box;
@@ -10,7 +10,8 @@ use std::time::{Duration, Instant};
 
 use compare::ascii::{to_ascii, to_ebcdic, CODE_PAGE_037};
 use compare::make::book::{self, Book};
-use compare::make::record::{add_record, ebcdic, finish, set, set_number, set_text};
+use compare::make::justify::{justified, Justified, EBCDIC};
+use compare::make::record::{add_record, code_of, ebcdic, fields_of, finish, set, set_number, set_text, BLANK};
 use compare::random::Random;
 use compare::{judge, layout, proved};
 
@@ -550,6 +551,29 @@ fn in_ascii(file: &[u8]) -> Option<Vec<u8>> {
     file.iter().map(|&byte| to_ascii(byte)).collect()
 }
 
+/// 02 W3: the file with every field moved. A number, and field 7, stands between blanks in place of the zeros before it; text begins one
+/// byte later where it ends in a blank.
+fn moved(file: &[u8]) -> Vec<u8> {
+    let mut moved = file.to_vec();
+    for record in moved.chunks_exact_mut(layout::RECORD) {
+        for field in fields_of(code_of(record)) {
+            move_field(&mut record[layout::place(field)], justified(field));
+        }
+    }
+    moved
+}
+
+fn move_field(bytes: &mut [u8], justified: Justified) {
+    let value = EBCDIC.least(bytes, justified).to_vec();
+    let blanks = bytes.len() - value.len();
+    match justified {
+        Justified::Never => {}
+        _ if EBCDIC.is_padded(&value, justified) => EBCDIC.put(bytes, blanks.div_ceil(2), 0, &value),
+        _ if bytes.ends_with(&[BLANK]) => bytes.rotate_right(1),
+        _ => {}
+    }
+}
+
 /// A file, the report of each judge for it, and the best times of the bare scan, the independent judge and the proved one.
 struct Contest<'a> {
     file: &'a [u8],
@@ -582,6 +606,18 @@ impl Contest<'_> {
     }
 }
 
+/// Ends where the moved file draws another report than the file itself; the judges' reports are compared in each round.
+fn compare_reports(name: &str, file: &[u8], moved: &[u8], book: &[u8]) {
+    let report = |file: &[u8]| {
+        let mut report = vec![0; 64 * (1 + file.len() / layout::RECORD / 4)];
+        (judge::judge(file, book, &mut report), report)
+    };
+    if report(file) != report(moved) {
+        eprintln!("{name}: the report is another than before");
+        exit(1);
+    }
+}
+
 /// The best times for the file, and for the file in ASCII.
 type Times = ([Duration; 3], Option<[Duration; 3]>);
 
@@ -600,15 +636,17 @@ fn measure(name: &str, file: &[u8], book: &[u8], rejected: usize) -> Times {
     (ebcdic.best, Some(ascii.best))
 }
 
-fn print(name: &str, records: usize, ([scan, independent, proved], ascii): Times, proved_a: Duration) {
+/// With the proved judge's time for (a), and for the file that is moved here.
+fn print(name: &str, records: usize, ([scan, independent, proved], ascii): Times, proved_a: Duration, unmoved: Option<Duration>) {
     let ms = |time: Duration| time.as_secs_f64() * 1e3;
     let ratio = |time: Duration, to: Duration| time.as_secs_f64() / to.as_secs_f64();
     let in_ascii = ascii.map_or("- | - | -".to_string(), |[_, independent, proved_in_ascii]| {
         let (rust, own, to_ebcdic) = (ms(independent), ms(proved_in_ascii), ratio(proved_in_ascii, proved));
         format!("{rust:.2} | {own:.2} | {to_ebcdic:.2}")
     });
+    let to_unmoved = unmoved.map_or("-".to_string(), |unmoved| format!("{:.2}", ratio(proved, unmoved)));
     println!(
-        "| {name} | {records} | {:.2} | {:.2} | {:.2} | {:.2} | {:.2} | {:.2} | {in_ascii} |",
+        "| {name} | {records} | {:.2} | {:.2} | {:.2} | {:.2} | {:.2} | {:.2} | {in_ascii} | {to_unmoved} |",
         ms(scan),
         ms(independent),
         ms(proved),
@@ -633,9 +671,10 @@ fn main() {
     let debits = sound_book(1_000, (0..KINDS).map(|number| (number, 0)));
     println!(
         "| file | records | bare scan, ms | Rust judge, ms | proved judge, ms | proved / Rust | proved / scan | times (a) \
-         | Rust judge in ASCII, ms | proved judge in ASCII, ms | proved, ASCII / EBCDIC |"
+         | Rust judge in ASCII, ms | proved judge in ASCII, ms | proved, ASCII / EBCDIC \
+         | proved, moved / as it was |"
     );
-    println!("|---|---|---|---|---|---|---|---|---|---|---|");
+    println!("|---|---|---|---|---|---|---|---|---|---|---|---|");
     for records in sizes {
         let ids = |numbers: Vec<u64>| numbers.into_iter().map(digits).collect::<Vec<_>>();
         let (payments, batches) = (payments_of_one(records), batches_of_four_in(records));
@@ -792,14 +831,22 @@ fn main() {
                 1,
             ),
         ];
-        let ordinary = ordinary.map(|(name, make, book)| (name, make, book, 0));
-        let hostile = hostile.map(|(name, make, rejected)| (name, make, &small[..], rejected));
-        let of_kinds = of_kinds.map(|(name, make, rejected)| (name, make, &debits[..], rejected));
+        // Each with whether it is measured moved, too.
+        let ordinary = ordinary.map(|(name, make, book)| (name, make, book, 0, true));
+        let hostile = hostile.map(|(name, make, rejected)| (name, make, &small[..], rejected, false));
+        let of_kinds = of_kinds.map(|(name, make, rejected)| (name, make, &debits[..], rejected, false));
         let of_kinds = of_kinds.into_iter().filter(|_| accounts > KINDS);
         let mut proved_a = None;
-        for (name, make, book, rejected) in ordinary.into_iter().chain(hostile).chain(of_kinds) {
-            let times = measure(name, &make(), book, rejected);
-            print(name, records, times, *proved_a.get_or_insert(times.0[2]));
+        for (name, make, book, rejected, is_moved) in ordinary.into_iter().chain(hostile).chain(of_kinds) {
+            let file = make();
+            let times = measure(name, &file, book, rejected);
+            let proved_a = *proved_a.get_or_insert(times.0[2]);
+            print(name, records, times, proved_a, None);
+            if is_moved {
+                let (name, moved) = (format!("{name}, every field moved"), moved(&file));
+                compare_reports(&name, &file, &moved, book);
+                print(&name, records, measure(&name, &moved, book, rejected), proved_a, Some(times.0[2]));
+            }
         }
     }
 }
