@@ -5,7 +5,7 @@ use std::collections::HashSet;
 use super::book::{Book, BETC, LOCATIONS};
 use super::fields::{set_code, set_sound, ALL, BATCH_RULES, FILE_RULES};
 use super::justify::corrected;
-use super::record::{add_noise, add_record, ebcdic, fields_of, set, set_number, set_text, write_number, BLANK, MOST};
+use super::record::{add_noise, add_record, ebcdic, fields_of, set, set_number, set_text, write_number, write_text, BLANK, MOST};
 use super::{Input, Piece};
 use crate::ascii::CODE_PAGE_037;
 use crate::layout::place;
@@ -287,12 +287,21 @@ fn tas_amounts(payment: u128, credits: &[bool], random: &Random) -> Vec<u128> {
 /// A BETC and its flag; nothing is a blank one.
 type Betc<'a> = Option<(&'a [u8], u8)>;
 
-/// What the kinds of a batch's DT hold: the same in fields 78 to 85 but for two bytes, or any text; and a BETC.
+/// How the kinds of a batch's DT differ in fields 78 to 85.
+#[derive(Clone, Copy)]
+enum Differ {
+    TwoBytes([usize; 2]),
+    /// Field 84 holds each number twice, with and without zeros before it: it is text, which W3 does not pad with zeros.
+    Zeros,
+    AnyText,
+}
+
+/// What the kinds of a batch's DT hold: fields 78 to 85, and a BETC.
 struct Accounts<'a> {
     kinds: Kinds,
     seed: u64,
     fields: [u8; 24],
-    two_bytes: Option<[usize; 2]>,
+    differ: Differ,
     first_byte: usize,
     /// The two bytes are of characters that ASCII has (02 W2).
     printable: bool,
@@ -314,7 +323,11 @@ impl<'a> Accounts<'a> {
             false => {}
         }
         let (one, other) = (random.index(24), 1 + random.index(23));
-        let two_bytes = (!random.chance(4)).then_some([one, (one + other) % 24]);
+        let differ = match random.below(8) {
+            0 => Differ::Zeros,
+            1 | 2 => Differ::AnyText,
+            _ => Differ::TwoBytes([one, (one + other) % 24]),
+        };
         let debit = || book.code(BETC, Some(0), random);
         let mut codes = vec![if !reporter && random.chance(2) { None } else { debit() }];
         for flag in [1, 0, 1, 0, 1, 0, 1].into_iter().take(random.index(8)) {
@@ -329,7 +342,7 @@ impl<'a> Accounts<'a> {
             kinds,
             seed,
             fields,
-            two_bytes,
+            differ,
             first_byte: random.pick(&[0, 0, 1, 160, random.index(192)]),
             printable,
             codes,
@@ -340,8 +353,8 @@ impl<'a> Accounts<'a> {
     fn of(&self, tas: usize) -> ([u8; 24], Betc<'a>) {
         let kind = self.kinds.of(tas);
         let (rest, mut fields) = (kind / self.codes.len(), self.fields);
-        match self.two_bytes {
-            Some([one, other]) => {
+        match self.differ {
+            Differ::TwoBytes([one, other]) => {
                 let text = |digit| match self.printable {
                     true => CODE_PAGE_037[(self.first_byte + digit) % 95],
                     false => BLANK + ((self.first_byte + digit) % 192) as u8,
@@ -349,7 +362,16 @@ impl<'a> Accounts<'a> {
                 fields[one] = text(rest % 32);
                 fields[other] = text(rest / 32);
             }
-            None => Random::new(self.seed ^ mix(rest as u64)).fill_text(&mut fields),
+            Differ::Zeros => {
+                let (number, start) = (rest / 2, place(84).start - place(78).start);
+                let text = if rest % 2 == 0 {
+                    format!("{number}")
+                } else {
+                    format!("{number:04}")
+                };
+                write_text(&mut fields[start..start + 4], &text);
+            }
+            Differ::AnyText => Random::new(self.seed ^ mix(rest as u64)).fill_text(&mut fields),
         }
         (fields, self.codes[kind % self.codes.len()])
     }
