@@ -11,7 +11,7 @@ use std::time::{Duration, Instant};
 use compare::ascii::{to_ascii, to_ebcdic, CODE_PAGE_037};
 use compare::make::book::{self, Book};
 use compare::make::justify::{justified, Justified, EBCDIC};
-use compare::make::record::{add_record, code_of, ebcdic, fields_of, finish, set, set_number, set_text, BLANK};
+use compare::make::record::{add_record, code_of, ebcdic, fields_of, finish, set, set_number, set_text, write_text, BLANK};
 use compare::random::Random;
 use compare::{judge, layout, proved};
 
@@ -574,6 +574,25 @@ fn move_field(bytes: &mut [u8], justified: Justified) {
     }
 }
 
+/// Without zeros before it, from the left.
+fn short(number: u64) -> Id {
+    let mut id = [BLANK; 20];
+    write_text(&mut id, &number.to_string());
+    id
+}
+
+/// 02 W3: the Payment ID of each record is moved right by a number of bytes of its own, as far as it has room.
+fn with_ids_apart(mut file: Vec<u8>) -> Vec<u8> {
+    for (number, record) in file.chunks_exact_mut(layout::RECORD).enumerate() {
+        if code_of(record).starts_with('D') {
+            let id = &mut record[layout::place(23)];
+            let room = id.len() - EBCDIC.value(id).len();
+            id.rotate_right(number % (room + 1));
+        }
+    }
+    file
+}
+
 /// A file, the report of each judge for it, and the best times of the bare scan, the independent judge and the proved one.
 struct Contest<'a> {
     file: &'a [u8],
@@ -708,7 +727,7 @@ fn main() {
             ("(f) batches of 100 payments", &|| batches_of_hundred(records), &small),
         ];
         // Each with the batches that are rejected.
-        let hostile: [(&str, Make, usize); 20] = [
+        let hostile: [(&str, Make, usize); 21] = [
             (
                 "(c) with schedule numbers shuffled",
                 &|| batches_of_four(records, &shuffled(records)),
@@ -744,6 +763,11 @@ fn main() {
                 "(b) with the first ID again at the end: batch rejected",
                 &|| one_batch(records, &ids(shuffled_before_a_repeat(payments))),
                 1,
+            ),
+            (
+                "(b) with short IDs, each record's at another place",
+                &|| with_ids_apart(one_batch(records, &shuffled(records).into_iter().map(short).collect::<Vec<_>>())),
+                0,
             ),
             (
                 "(f) of 190 payments, IDs share 19 bytes and descend",
