@@ -12,7 +12,7 @@ use std::{env, fs, io, thread};
 use compare::ascii::{is_ascii, to_ascii, to_ebcdic, translated, ASCII_FH};
 use compare::layout::{of, RECORD};
 use compare::make::book::codes_ascend;
-use compare::make::justify::{corrected, justified, Justified, EBCDIC};
+use compare::make::justify::{corrected, justified, Justified, Page, EBCDIC};
 use compare::make::record::{code_of, fields_of, BLANK};
 use compare::make::{input_seed, Input, Piece, Recipe};
 use compare::{judge, proved};
@@ -150,11 +150,11 @@ fn has_unprintable(file: &[u8]) -> bool {
 
 /// Whether a Payment ID of a well nested file in ASCII is not byte for byte its detail's, wherever it stands in its field.
 fn has_ids_apart(file: &[u8]) -> bool {
-    let mut id: &[u8] = &[];
+    let (page, mut id) = (Page::of(file), &[][..]);
     file.chunks_exact(RECORD).any(|record| {
         match code_of(&[record[0], record[1]].map(to_ebcdic)) {
-            "DN" | "DC" | "DW" | "DI" | "DA" => id = of(record, 23).trim_ascii(),
-            "DX" | "DT" | "DP" => return of(record, 65).trim_ascii() != id,
+            "DN" | "DC" | "DW" | "DI" | "DA" => id = page.value(of(record, 23)),
+            "DX" | "DT" | "DP" => return page.value(of(record, 65)) != id,
             _ => {}
         }
         false
