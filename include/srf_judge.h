@@ -40,6 +40,10 @@ extern "C" {
  * bytes stay as they are. Any other file is taken as it is, also one of fewer than two bytes. The book is EBCDIC for both, and the report
  * is the same for both.
  *
+ * Justification: a value may stand anywhere in its field, and counts as if it stood where it belongs: a number (one run of digits, with
+ * blanks before or after it) padded with zeros on the left, field 7 moved right and padded with zeros, any other field and the codes of the
+ * book moved left. Dates and record codes are taken as they stand, and a field that is all blank stays so. A blank is hex 40, in ASCII 20.
+ *
  * Returned: 0 where the file is accepted, else reason * 100,000 + record (SRF_REASON, SRF_RECORD).
  *
  * Written: on 0, the head and then a row for each batch in file order, from the report's start; the bytes past the last row stay as they
@@ -73,7 +77,7 @@ enum srf_file_reason {
     SRF_LOW_BYTE = 7,           /* a byte below hex 40 outside fillers; in ASCII, one outside 20 to 7E [the first with one] */
     SRF_INPUT_SYSTEM = 8,       /* InputSystem blank or not in the book [1] */
     SRF_VERSION = 9,            /* version not 201 [1] */
-    SRF_TRAILER_NON_DIGIT = 10, /* a number in FT with a non-digit [last] */
+    SRF_TRAILER_NON_DIGIT = 10, /* a number in FT that is not one run of digits [last] */
     SRF_TRAILER_RECORDS = 11,   /* TotalCount_Records is not the record count [last] */
     SRF_TRAILER_PAYMENTS = 12,  /* TotalCount is not the detail count [last] */
     SRF_TRAILER_AMOUNT = 13     /* TotalAmount is not the sum of details [last] */
@@ -86,7 +90,7 @@ enum srf_file_reason {
 enum srf_batch_reason {
     SRF_SOUND = 0,
     SRF_BLANK = 1,              /* required, but all blank */
-    SRF_BADLY_SHAPED = 2,       /* badly shaped: a non-digit, or a blank in field 7 */
+    SRF_BADLY_SHAPED = 2,       /* badly shaped: no run of digits, or a blank inside field 7 */
     SRF_NOT_LISTED = 3,         /* not a listed value */
     SRF_NOT_IN_BOOK = 4,        /* not in the code book */
     SRF_NOT_A_DATE = 5,         /* not a date */

@@ -31,9 +31,44 @@ def ebcdic(text):
     return text.encode("cp037")
 
 
+# ---- justification (02 W3; 004 section 1.7)
+
+NUMBERS = {9, 12, 13, 15, 18, 19, 20, 24, 36, 42, 43, 58, 87, 96, 99, 100, 103, 104, 105}  # of which document 01 asks digits
+DATES = {8, 17, 56, 59}  # they stay as they are
+SUMMARY = 7  # the field that is moved right
+
+
+def blank(value):
+    return not value.strip(" ")
+
+
+def is_digits(value):
+    return all(c in "0123456789" for c in value)
+
+
+def moved_left(value):
+    """Text: moved left and padded with blanks. Only byte 40 is a blank."""
+    return value.lstrip(" ").ljust(len(value))
+
+
+def zero_padded(value):
+    """The blanks at both ends go; it is moved right and padded with zeros."""
+    return value.strip(" ").rjust(len(value), "0")
+
+
+def corrected(value, field):
+    """What a field counts as: a number is one unbroken run of digits between blanks, of any other shape it is moved like text."""
+    if blank(value) or field in DATES:
+        return value
+    if field == SUMMARY or field in NUMBERS and is_digits(value.strip(" ")):
+        return zero_padded(value)
+    return moved_left(value)
+
+
 def held(rec, field):
+    """The corrected value of a field: all that the rules read."""
     start, end = PLACES[field]
-    return bytes(rec[start - 1:end]).decode("cp037")
+    return corrected(bytes(rec[start - 1:end]).decode("cp037"), field)
 
 
 # ---- the code book (01 Code book)
@@ -55,7 +90,7 @@ def parsed(book):
         if len(body) % entry:
             return None
         entries = [body[i:i + entry] for i in range(0, len(body), entry)]
-        codes = [e[:width] for e in entries]
+        codes = [moved_left(e[:width].decode("cp037")).encode("cp037") for e in entries]  # 02 W3: before their order is tested
         if any(a >= b for a, b in zip(codes, codes[1:])) or flagged and any(e[width] > 1 for e in entries):
             return None
         lists[kind] = {c.decode("cp037"): e[width] if flagged else None for c, e in zip(codes, entries)}
@@ -81,7 +116,8 @@ def is_detail(rec):
 
 
 def ident(rec):
-    return bytes(rec[2:22])
+    """The Payment ID of a detail or of its other records (004 fields 23, 65, 77, 91), which nests after it is moved (02 W3)."""
+    return held(rec, 23)
 
 
 def parts(items, begins):
@@ -101,15 +137,15 @@ def legal(records):
     return all(len(set(map(ident, p))) == 1 for p in payments)
 
 
-def bare(code, ident=b""):
-    return ebcdic(code) + ident
+def bare(code, ident=""):
+    return ebcdic(code + ident)
 
 
 def begins_legal_file(records):
     """Whether some legal file begins so: one of the six ways to go on ends in one."""
     headers, details = [r for r in records if is_header(r)], [r for r in records if is_detail(r)]
     letter = code_of(headers[-1])[1] if headers else "N"
-    last = ident(details[-1]) if details else b""
+    last = ident(details[-1]) if details else ""
     ends = [bare("FH"), bare("B" + letter), bare("D" + letter, last), bare("DX", last), bare("BT"), bare("FT")]
     return any(legal(records + ends[k:]) for k in range(len(ends) + 1))
 
@@ -125,14 +161,6 @@ def nesting_fault(records):
 
 
 # ---- the judge of a batch (01 Batch reasons): what is wrong with a value is a reason, or 0
-
-def blank(value):
-    return not value.strip(" ")
-
-
-def is_digits(value):
-    return all(c in "0123456789" for c in value)
-
 
 def cents(value):
     """An amount that is not 20 digits counts as zero in every sum."""
@@ -186,9 +214,10 @@ def routing(v):
 
 def header_faults(h, letter, book, repeats):
     v = lambda field: held(h, field)
-    yield 6, first((blank(v(6)), 1), (repeats, 6), (letter == "C" and v(6) != v(18) + v(19) + "  ", 7))
+    own = v(18) + v(19) + "  "  # put side by side, and not moved again
+    yield 6, first((blank(v(6)), 1), (repeats, 6), (letter == "C" and v(6) != own, 7))
     if letter in VOUCHERS:
-        yield 7, first((blank(v(7)), 1), (" " in v(7), 2))
+        yield 7, first((blank(v(7)), 1), (" " in v(7), 2))  # a blank inside: those at its ends are gone
         yield 8, dashed_date(v(8))
         yield 9, number(v(9))
         yield 10, listed(v(10), ["5515", "215"])
@@ -210,7 +239,7 @@ def detail_faults(d, letter, book, h, earlier):
     """`earlier` are the details of the earlier payments."""
     v = lambda field: held(d, field)
     check = letter == "C"
-    own = held(h, 18) + v(58) + " " * 8
+    own = held(h, 18) + v(58) + " " * 8  # put side by side, and not moved again
     yield 23, first((blank(v(23)), 1), (v(23) in [held(e, 23) for e in earlier], 6), (check and v(23) != own, 7))
     if check:
         yield 24, number(v(24)) or first((int(v(24)) > 9999999999, 8), (v(25) == "1" and int(v(24)) != 0, 8))
@@ -280,8 +309,8 @@ def procures(paid, procurements):
 
 
 def kind(t):
-    """The kind of a TAS/BETC: positions 23 to 54 (W1; 004 fields 78 to 86), blank ones too."""
-    return bytes(t[22:54])
+    """The kind of a TAS/BETC: positions 23 to 54 (W1; 004 fields 78 to 86, each moved within itself: W3), blank ones too."""
+    return tuple(held(t, field) for field in range(78, 87))
 
 
 def trailer_faults(t, payments, total):

@@ -1,5 +1,5 @@
 #!/usr/bin/env python3
-"""Writes what this program is run on, and what documents 01 and 004 say of it.
+"""Writes what this program is run on, and what documents 01, 02 and 004 say of it.
 
 data/records.bin holds sound records, data/book.bin a code book, stdin a table with a case a line, stdout the rows (01 Report).
 The judge is reference/srf.py.
@@ -175,9 +175,9 @@ one_fault(7, 2, VOUCHERS, HEAD, holds(HEAD, 7, "00 123"))
 one_fault(8, 1, VOUCHERS, HEAD, holds(HEAD, 8, ""))
 one_fault(8, 5, VOUCHERS, HEAD, holds(HEAD, 8, "1900-02-29"))
 one_fault(9, 1, VOUCHERS, HEAD, holds(HEAD, 9, ""))
-one_fault(9, 2, VOUCHERS, HEAD, holds(HEAD, 9, "100"))
+one_fault(9, 2, VOUCHERS, HEAD, holds(HEAD, 9, "1 00"))
 one_fault(10, 1, VOUCHERS, HEAD, holds(HEAD, 10, ""))
-one_fault(10, 3, VOUCHERS, HEAD, holds(HEAD, 10, " 215"))
+one_fault(10, 3, VOUCHERS, HEAD, holds(HEAD, 10, "515"))
 for letters, rec, field in [("W", HEAD, 12), ("N", HEAD, 13), ("W", DETAIL, 42), ("N", DETAIL, 43)]:
     one_fault(field, 1, letters, rec, holds(rec, field, ""))
     one_fault(field, 2, letters, rec, holds(rec, field, "00000000A"))
@@ -185,17 +185,16 @@ for letters, rec, field in [("W", HEAD, 12), ("N", HEAD, 13), ("W", DETAIL, 42),
 one_fault(14, 1, VOUCHERS, HEAD, holds(HEAD, 14, ""))
 one_fault(14, 4, VOUCHERS, HEAD, holds(HEAD, 14, "00005679"))
 one_fault(15, 1, "C", HEAD, holds(HEAD, 15, ""))
-one_fault(15, 2, "C", HEAD, holds(HEAD, 15, "123 "))
+one_fault(15, 2, "C", HEAD, holds(HEAD, 15, "12 4"))
 one_fault(16, 1, "C", HEAD, holds(HEAD, 16, ""))
 one_fault(16, 3, "C", HEAD, holds(HEAD, 16, "1"))
 one_fault(17, 1, "C", HEAD, holds(HEAD, 17, ""))
 one_fault(17, 5, "C", HEAD, holds(HEAD, 17, "20230229"))
-one_fault(18, 1, "C", HEAD, symbol(""))
 one_fault(18, 2, "C", HEAD, symbol("123A"))
 one_fault(18, 8, "C", HEAD, symbol("0999"))
 one_fault(18, 8, "C", HEAD, symbol("9999"), note="above")
 one_fault(19, 1, "C", HEAD, first_serial(""))
-one_fault(19, 2, "C", HEAD, first_serial("1234560 "))
+one_fault(19, 2, "C", HEAD, first_serial("123 5600"))
 one_fault(20, 1, "C", HEAD, holds(HEAD, 20, ""))
 one_fault(20, 2, "C", HEAD, holds(HEAD, 20, "022A"))
 one_fault(20, 5, "C", HEAD, holds(HEAD, 20, "1324"))
@@ -205,7 +204,7 @@ one_fault(23, 1, LETTERS, DETAIL, lambda letter: named(""))
 one_fault(23, 6, LETTERS, 7, lambda letter: named(IDENT, (7, 8, 9, 10)), shape=(2, 1, 1, 1))
 one_fault(23, 7, "C", DETAIL, lambda letter: named(IDENT[:-1] + "9"))
 one_fault(24, 1, LETTERS, DETAIL, lambda letter: paid("", 0, letter))
-one_fault(24, 2, LETTERS, DETAIL, lambda letter: paid("100", 0, letter))
+one_fault(24, 2, LETTERS, DETAIL, lambda letter: paid("1 00", 0, letter))
 one_fault(24, 8, VOUCHERS, DETAIL, lambda letter: paid(amount(0), 0, letter))
 one_fault(24, 8, "C", DETAIL, lambda letter: paid(amount(10**10), 10**10, letter))
 one_fault(24, 8, "C", DETAIL, holds(DETAIL, 25, "1"), note="voided, but not zero")
@@ -217,7 +216,7 @@ one_fault(28, 4, LETTERS, DETAIL, holds(DETAIL, 28, "vendor"))
 one_fault(29, 1, "C", DETAIL, holds(DETAIL, 29, ""))
 one_fault(29, 4, "C", DETAIL, holds(DETAIL, 29, "00001235"))
 one_fault(35, 4, LETTERS, DETAIL, holds(DETAIL, 35, "US"))
-one_fault(36, 2, LETTERS, DETAIL, holds(DETAIL, 36, "9021"))
+one_fault(36, 2, LETTERS, DETAIL, holds(DETAIL, 36, "90 10"))
 one_fault(38, 4, LETTERS, DETAIL, holds(DETAIL, 38, "NY"))
 one_fault(44, 1, "W", DETAIL, holds(DETAIL, 44, ""))
 one_fault(44, 3, "W", DETAIL, holds(DETAIL, 44, "CTX"))
@@ -243,7 +242,7 @@ for field in (80, 84, 85, 86):
     one_fault(field, 1, LETTERS, DT, of_reporter(DT, field, ""))
 one_fault(86, 4, LETTERS, DT, holds(DT, 86, "COL"))
 one_fault(87, 1, LETTERS, 6, holds(6, 87, ""), shape=TWO_DT)
-one_fault(87, 2, LETTERS, 6, holds(6, 87, "0"), shape=TWO_DT)
+one_fault(87, 2, LETTERS, 6, holds(6, 87, "0 0"), shape=TWO_DT)
 one_fault(96, 1, LETTERS, 7, holds(7, 96, ""), shape=TWO_DP)
 one_fault(96, 2, LETTERS, 7, holds(7, 96, "0" * 19 + "-"), shape=TWO_DP)
 one_fault(87, 9, LETTERS, DETAIL, holds(DT, 87, amount(99)))
@@ -251,10 +250,10 @@ one_fault(96, 10, LETTERS, DETAIL, holds(DP, 96, amount(101)))
 one_fault(76, 11, LETTERS, DETAIL, lambda letter: [reporter(letter)], shape=(1, 1, 0, 1))
 one_fault(76, 12, LETTERS, HEAD, lambda letter: [], shape=(11, 1, 91, 0))
 one_fault(99, 1, LETTERS, BT, holds(BT, 99, ""))
-one_fault(99, 2, LETTERS, BT, holds(BT, 99, "1"))
+one_fault(99, 2, LETTERS, BT, holds(BT, 99, "0 1"))
 one_fault(99, 13, LETTERS, BT, holds(BT, 99, "00000002"))
 one_fault(100, 1, LETTERS, BT, holds(BT, 100, ""))
-one_fault(100, 2, LETTERS, BT, holds(BT, 100, "100"))
+one_fault(100, 2, LETTERS, BT, holds(BT, 100, "1 00"))
 one_fault(100, 14, LETTERS, BT, holds(BT, 100, amount(101)))
 one_fault(9, 14, VOUCHERS, HEAD, holds(HEAD, 9, amount(101)))
 
@@ -302,8 +301,58 @@ add("fields of other kinds, in a check batch", "C",
 for byte in (0x3F, 0x41, 0xEF, 0xFA, 0xFF):
     add("99 ends in hex %02X" % byte, "W", [(BT, 10, 10, bytes([byte]))], expect=(2, BT, 99))
 add("26 holds hex 41, which is no blank", "N", [(DETAIL, 44, 90, b"\x41")])
-add("7 ends in a blank", "A", [put(HEAD, 7, "00012")], expect=(2, HEAD, 7))
+add("7 ends in a blank", "A", [put(HEAD, 7, "00012")])
 add("7 holds no digits", "A", [put(HEAD, 7, "SUM-A1")])
+
+# W3: values that are not where they belong
+MOVED = [  # letters, a record, a field, what it holds, and which reason that is
+    (LETTERS, HEAD, 6, " " + IDENT, 0), (VOUCHERS, HEAD, 6, " " * 13 + "A", 0), (VOUCHERS, HEAD, 7, "123", 0), (VOUCHERS, HEAD, 7, "   123", 0),
+    (VOUCHERS, HEAD, 7, " 123", 0), (VOUCHERS, HEAD, 7, " 1 3", 2), (VOUCHERS, HEAD, 7, "A   B", 2), (VOUCHERS, HEAD, 9, "100", 0),
+    (VOUCHERS, HEAD, 9, " 100", 0), (VOUCHERS, HEAD, 9, "100".rjust(20), 0), (VOUCHERS, HEAD, 9, " 1 00", 2), (VOUCHERS, HEAD, 9, " 10", 14),
+    (VOUCHERS, HEAD, 10, " 215", 0), (VOUCHERS, HEAD, 10, " 551", 3), (VOUCHERS, HEAD, 8, " 024-02-29", 5), (VOUCHERS, HEAD, 14, " 0000567", 4),
+    ("W", HEAD, 12, "21030004", 0), ("W", HEAD, 12, " 1030004", 0), ("W", HEAD, 12, "3000", 0), ("W", HEAD, 12, " 130 0000", 2),
+    ("N", HEAD, 13, "61000146", 0), ("N", HEAD, 13, " 61000146", 0), ("N", HEAD, 13, " A", 2), ("C", HEAD, 15, "123", 0), ("C", HEAD, 15, "  3", 0),
+    ("C", HEAD, 15, " 1 3", 2), ("C", HEAD, 17, " 0240229", 5), ("C", HEAD, 20, "224", 0), ("C", HEAD, 20, " 224", 0), ("C", HEAD, 20, " 24", 5),
+    ("C", HEAD, 20, "12 4", 2), (LETTERS, DETAIL, 24, "100", 0), (LETTERS, DETAIL, 24, " 100", 0), (LETTERS, DETAIL, 24, "100".rjust(20), 0),
+    (LETTERS, DETAIL, 26, "A".rjust(47), 0), (LETTERS, DETAIL, 28, " Vendor", 0), (LETTERS, DETAIL, 28, "Vendor".rjust(25), 0),
+    (LETTERS, DETAIL, 28, " Ven dor", 4), ("C", DETAIL, 29, " 0000567", 4), (LETTERS, DETAIL, 35, " C", 4), (LETTERS, DETAIL, 36, "9021", 0),
+    (LETTERS, DETAIL, 36, " 902", 0), (LETTERS, DETAIL, 36, " 0", 0), (LETTERS, DETAIL, 36, " 0 0", 2), (LETTERS, DETAIL, 38, " U", 4),
+    ("W", DETAIL, 42, " 1000013", 0), ("W", DETAIL, 42, "1300001 3", 2), ("N", DETAIL, 43, "71000013", 0), ("N", DETAIL, 43, " 1 ", 0),
+    ("W", DETAIL, 44, " CT", 3), ("N", DETAIL, 48, " 0", 3), ("N", DETAIL, 48, " 2", 3), ("I", DETAIL, 51, " Check", 0),
+    ("I", DETAIL, 51, "Western Union".rjust(20), 0), ("I", DETAIL, 51, " Western  Union", 3), (LETTERS, DETAIL, 52, " US", 4),
+    ("A", DETAIL, 54, "A".rjust(14), 0), ("A", DETAIL, 55, "A".rjust(20), 0), ("A", DETAIL, 56, " 024-02-29", 5), ("C", DETAIL, 59, " 0240229", 5),
+    ("N", DETAIL, 62, " CC", 3), (LETTERS, DX, 65, "  " + IDENT, 0), (LETTERS, DX, 66, "A".rjust(150), 0), (LETTERS, DT, 77, IDENT.rjust(20), 0),
+    (LETTERS, DT, 86, " DISB", 0), (LETTERS, DT, 86, "DISB".rjust(8), 0), (LETTERS, DT, 86, " DIS", 4), (LETTERS, DT, 87, "100", 0),
+    (LETTERS, DT, 87, " 100", 0), (LETTERS, DT, 87, " 1 00", 2), (LETTERS, DP, 91, " " + IDENT, 0), (LETTERS, DP, 96, "100", 0),
+    (LETTERS, DP, 96, "100".rjust(20), 0), (LETTERS, DP, 96, " 10 0", 2), (LETTERS, BT, 99, "1", 0), (LETTERS, BT, 99, " 1", 0),
+    (LETTERS, BT, 99, " 0 1", 2), (LETTERS, BT, 99, "  2", 13), (LETTERS, BT, 100, "100", 0), (LETTERS, BT, 100, "100".rjust(20), 0),
+    (LETTERS, BT, 100, " 100 0", 2), (LETTERS, BT, 100, " 101", 14),
+]
+for letters, rec, field, value, reason in MOVED:
+    for letter in letters:
+        before = len(value) - len(value.lstrip())
+        label = "%d holds %s behind %d blanks, %s" % (field, value.strip(), before, letter)
+        add(label, letter, [put(rec, field, value)], expect=(reason, rec, field) if reason else "sound")
+add("18 is blank: 6 does not match", "C", symbol("")("C"), expect=(7, HEAD, 6))
+for value, reason in [(" 999", 8), ("999 ", 8), (" 99 ", 8)]:
+    add("18 holds '%s', 6 and 23 with zeros" % value, "C", [put(HEAD, 18, value), *symbol(value.strip().zfill(4))("C")[1:]], expect=(reason, HEAD, 18))
+    add("18 holds '%s', 6 without zeros" % value, "C", symbol(value)("C"), expect=(7, HEAD, 6))
+for value in ["3456", "  3456", "3456".rjust(8)]:
+    padded = value.strip().zfill(8)
+    sound = [put(HEAD, 19, value), put(HEAD, 6, SYMBOL + padded), put(DETAIL, 58, padded), *named(SYMBOL + padded)]
+    add("19 holds '%s'" % value, "C", sound)
+    add("19 and 58 hold '%s'" % value, "C", [*sound, put(DETAIL, 58, value)])
+    add("19 holds '%s', 6 without zeros" % value, "C", [*sound, put(HEAD, 6, SYMBOL + value.strip())], expect=(7, HEAD, 6))
+    add("58 holds '%s', 23 without zeros" % value, "C", [*sound, put(DETAIL, 58, value), *named(SYMBOL + value.strip())], expect=(7, DETAIL, 23))
+for letter in LETTERS:
+    add("each ID at its own place, " + letter, letter, [put(rec, 23, " " * rec + IDENT) for rec in (DETAIL, DX, DT, DP)])
+    add("IDs equal but for their place, " + letter, letter, [put(rec, 23, " " * (rec - 6) + IDENT) for rec in (7, 8, 9, 10)], shape=(2, 1, 1, 1), expect=(6, 7, 23))
+    add("a blank inside one ID, " + letter, letter, [put(DX, 65, IDENT[:4] + " " + IDENT[4:])], expect="no batch")
+add("an ID behind hex 41, which is no blank", "N", [(DETAIL, 3, 3, b"\x41"), (DX, 3, 3, b"\x40")], expect="no batch")
+add("7 begins with hex 41, which is no blank", "N", [(HEAD, 17, 22, b"\x41\xF1\x40\x40\x40\x40")])
+add("9 behind hex 41, which is no blank: 2", "N", [(HEAD, 33, 33, b"\x41")], expect=(2, HEAD, 9))
+add("1,001 kinds, two equal but for their place", "W", [put(5, 81, "X"), put(6, 81, "  X")], shape=(11, 1, 91, 0))
+add("1,001 kinds, two of equal digits", "W", [put(5, 81, "1"), put(6, 81, "0001")], shape=(11, 1, 91, 0), expect=(12, HEAD, 76))
 
 # 01 Sums
 CREDIT = "COLL"
@@ -407,11 +456,12 @@ add("another letter's detail", "N", [(DETAIL, 1, 2, ebcdic("DW"))], expect="no b
 add("another payment's DT", "N", [put(DT, 77, "X")], expect="no batch")
 add("two batches", "N", [(n, 1, 2, ebcdic(code)) for n, code in ((6, "BT"), (7, "BN"), (8, "DN"), (9, "DX"))], shape=(2, 1, 1, 1), expect="no batch")
 
-# every pair that document 01 has, by field: the letters of each reason
+# Every pair that document 01 has, by field: the letters of each reason. Only 18/1 is never the first: behind a blank 18 no number that
+# is moved left matches (02 W3), so that 6 is at fault before it.
 PAIRS = {
     6: {1: LETTERS, 6: LETTERS, 7: "C"}, 7: {1: VOUCHERS, 2: VOUCHERS}, 8: {1: VOUCHERS, 5: VOUCHERS}, 9: {1: VOUCHERS, 2: VOUCHERS, 14: VOUCHERS},
     10: {1: VOUCHERS, 3: VOUCHERS}, 12: {1: "W", 2: "W", 3: "W"}, 13: {1: "N", 2: "N", 3: "N"}, 14: {1: VOUCHERS, 4: VOUCHERS},
-    15: {1: "C", 2: "C"}, 16: {1: "C", 3: "C"}, 17: {1: "C", 5: "C"}, 18: {1: "C", 2: "C", 8: "C"}, 19: {1: "C", 2: "C"}, 20: {1: "C", 2: "C", 5: "C"},
+    15: {1: "C", 2: "C"}, 16: {1: "C", 3: "C"}, 17: {1: "C", 5: "C"}, 18: {2: "C", 8: "C"}, 19: {1: "C", 2: "C"}, 20: {1: "C", 2: "C", 5: "C"},
     23: {1: LETTERS, 6: LETTERS, 7: "C"}, 24: {1: LETTERS, 2: LETTERS, 8: LETTERS}, 25: {1: "C", 3: "C"}, 26: {1: LETTERS}, 28: {1: LETTERS, 4: LETTERS},
     29: {1: "C", 4: "C"}, 35: {4: LETTERS}, 36: {2: LETTERS}, 38: {4: LETTERS}, 42: {1: "W", 2: "W", 3: "W"}, 43: {1: "N", 2: "N", 3: "N"},
     44: {1: "W", 3: "W"}, 48: {3: "N"}, 51: {3: "I"}, 52: {4: LETTERS}, 54: {1: "A"}, 55: {1: "A"}, 56: {1: "A", 5: "A"}, 58: {1: "C", 2: "C", 7: "C"},

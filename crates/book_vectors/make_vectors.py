@@ -1,5 +1,5 @@
 #!/usr/bin/env python3
-"""Writes stdin and stdout of this program: books, sound and damaged in every way that document 01 names, and what 01 says of them."""
+"""Writes stdin and stdout of this program: books, sound and damaged in every way that document 01 names, and what 01 and 02 W3 say of them."""
 import pathlib
 import random
 
@@ -10,6 +10,17 @@ ENTRY = [40, 9, 9, 25, 2, 2, 3]
 
 def text(value, width):
     return value.ljust(width).encode("cp037")
+
+
+def corrected(code):
+    """What a code means: moved left, and blanks after it (02 W3)."""
+    return code.lstrip(b"\x40").ljust(len(code), b"\x40")
+
+
+def moved(code):
+    """Ways to send a code: all its blanks after it, one of them before it, all of them before it."""
+    core = code.strip(b"\x40")
+    return sorted({(b"\x40" * n + core).ljust(len(code), b"\x40") for n in (0, min(1, len(code) - len(core)), len(code) - len(core))})
 
 
 def section(number, entries):
@@ -35,7 +46,7 @@ def reading(data):
         if size < 2 or len(body) != size - 2 or len(body) % width:
             return None
         entries = [body[i:i + width] for i in range(0, len(body), width)]
-        codes = [e[:code] for e in entries]
+        codes = [corrected(e[:code]) for e in entries]
         if any(a >= b for a, b in zip(codes, codes[1:])) or any(flag > 1 for e in entries for flag in e[code:]):
             return None
         lists.append(entries)
@@ -49,7 +60,7 @@ def says(data, query):
         return "unsound \n"
     words = ["sound"]
     for code, entries in zip(CODE, lists):
-        hits = [e for e in entries if e[:code] == query[:code]]
+        hits = [e for e in entries if corrected(e[:code]) == corrected(query[:code])]
         found = hits[0] if hits else b""
         words += [len(entries), len(found), int(len(found) >= 9 and found[8] == 1)]
     return " ".join(map(str, words)) + " \n"
@@ -129,6 +140,28 @@ for kind in range(7):
 lists = [list(entries) for entries in LISTS]
 lists[1] = [text("00001234", 8) + b"\0", text("00001234", 8) + b"\1"]
 add(book(lists))
+# codes that ascend only after they are corrected, and codes that ascend only before
+for kind, low, high in ((0, "PAYROLL", "VENDORS"), (1, "0001234", "0005678"), (2, "COLL", "DISB"), (3, "Benefit", "Vendor"), (4, "C", "N"), (5, "C", "U"), (6, "CA", "US")):
+    width, flag = CODE[kind], b"\0" * (ENTRY[kind] - CODE[kind])
+    for first, second in ((low, high), (high, low), (low, low)):
+        for one in moved(text(first, width)):
+            for other in moved(text(second, width)):
+                lists = [list(entries) for entries in SMALL]
+                lists[kind] = [one + flag, other + flag]
+                add(book(lists), text(second, width))
+# a code is found wherever it stands in the book and in the record; a blank inside it stays, and a blank one is a code as any other
+for kind, code in ((0, "PAYROLL"), (1, "0001234"), (2, "COLL"), (3, "Vendor B"), (4, "C"), (5, "U"), (6, "US"), (6, "U"), (6, "U S"), (6, "")):
+    width, flag = CODE[kind], b"\1" * (ENTRY[kind] - CODE[kind])
+    for listed in moved(text(code, width)):
+        for sent in moved(text(code, width)):
+            lists = [list(entries) for entries in EMPTY]
+            lists[kind] = [listed + flag]
+            add(book(lists), sent)
+lists = [[moved(entry[:code])[-(i % 2)] + entry[code:] for i, entry in enumerate(entries)] for entries, code in zip(LISTS, CODE)]
+for entries, code in zip(LISTS, CODE):
+    for entry in entries:
+        for sent in moved(entry[:code]):
+            add(book(lists), sent)
 # any byte of a small book changed
 random.seed(1)
 for i in range(len(book(SMALL))):

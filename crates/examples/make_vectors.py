@@ -14,8 +14,8 @@ import sys
 here = pathlib.Path(__file__).parent
 sys.path.insert(0, str(here.parent.parent / "reference"))
 from srf import (  # noqa: E402
-    FILLERS, KINDS, LETTERS, PLACES, SYMBOL, VOUCHERS, amount, code_of, coded, ebcdic, flagged, judged, record, section,
-    templates, translated, write_cases,
+    FILLERS, KINDS, LETTERS, NUMBERS, PLACES, SYMBOL, VOUCHERS, amount, code_of, coded, corrected, ebcdic, flagged, held, judged,
+    record, section, templates, translated, write_cases,
 )
 LABEL = 56
 REPORT = 1024
@@ -95,6 +95,23 @@ def put(rec, field, value):
         return [at(rec, start, end, b"\x40")] + [at(rec, start, start + len(data) - 1, data)] * (len(data) > 0)
     data = data.ljust(width, b"\x40")
     return [at(rec, start, end, data[:1] if len(set(data)) == 1 else data)]
+
+
+def width_of(field):
+    start, end = PLACES[field]
+    return end - start + 1
+
+
+def placed(rec, field, value, before):
+    """The field of the record holds the value behind so many blanks."""
+    start, end = PLACES[field]
+    first = start + before
+    assert first + len(value) - 1 <= end, (field, value, before)
+    return [at(rec, start, end, b"\x40")] * (len(value) < width_of(field)) + [at(rec, first, first + len(value) - 1, ebcdic(value))] * (value != "")
+
+
+def at_right(rec, field, value):
+    return placed(rec, field, value, width_of(field) - len(value))
 
 
 def money(rec, field, n):
@@ -367,7 +384,7 @@ for rec, name in enumerate(KIND, 1):
         add("3F and 00 in the filler %d-%d of %s" % (start, end, name), FULL, at(rec, start, end, b"\x3F\0"), expect=SOUND)
         if end < 850:
             add("3F after the filler %d-%d of %s" % (start, end, name), FULL, at(rec, end + 1, end + 1, b"\x3F"), expect=700000 + rec)
-for rec, found in [(2, SOUND), (3, fault(3, 3, 62)), (4, SOUND), (5, SOUND), (6, fault(2, 6, 96)), (7, fault(2, 7, 100))]:
+for rec, found in [(2, SOUND), (3, fault(3, 3, 62)), (4, SOUND), (5, SOUND), (6, fault(10, 3, 96)), (7, fault(14, 7, 100))]:  # 96 and 100 hold 10
     last = FILLERS[KIND[rec - 1]][-1][0] - 1
     add("40 before the filler of " + KIND[rec - 1], FULL, at(rec, last, last, b"\x40"), expect=found)
 for rec, start, name in [(2, 103, "a check's field of BN"), (3, 654, "a check's field of DN"), (3, 140, "an address line"), (4, 174, "a first name"),
@@ -427,8 +444,8 @@ add("book, all codes in ASCII", [N], code(0, b"".join(one[:6] + one[6:].translat
 add("book, all bytes in ASCII", [N], code(0, BOOK.translate(LATIN)), expect=400000)
 
 # 01 File answers, 8 and 9
-for value in ["", "PAYROL", "PAYROLLS", "payroll", " PAYROLL", "PAYROLL" + " " * 32 + "X"]:
-    add("InputSystem " + (" ".join(value.split()) or "blank") + (" behind a blank" if value[:1] == " " else ""), [N], put(FH, 2, value), expect=800001)
+for value in ["", "PAYROL", "PAYROLLS", "payroll", "PAYROLL" + " " * 32 + "X"]:
+    add("InputSystem " + (" ".join(value.split()) or "blank"), [N], put(FH, 2, value), expect=800001)
 add("InputSystem LEDGER, the book's first", [N], put(FH, 2, "LEDGER"), expect=SOUND)
 add("InputSystem blank, and the book lists a blank", [N], put(FH, 2, ""), code(6, b"\x40", 40), expect=800001)
 add("the book lists a blank, InputSystem filled", [N], code(6, b"\x40", 40), expect=SOUND)
@@ -441,9 +458,10 @@ NAMES = {103: "TotalCount_Records", 104: "TotalCount", 105: "TotalAmount"}
 for field, name in NAMES.items():
     start, end = PLACES[field]
     add(name + " blank", [N], put(FT, field, ""), expect=1000006)
-    add(name + " with a leading blank", [N], at(FT, start, start, b"\x40"), expect=1000006)
+    add(name + " with a leading blank", [N], at(FT, start, start, b"\x40"), expect=SOUND)
     add(name + " with a last letter", [N], at(FT, end, end, b"\xC1"), expect=1000006)
-    for byte in (0x40, 0x60, 0xEF, 0xFA, 0xFF):
+    add(name + " with a last blank", [N], at(FT, end, end, b"\x40"), expect=(field - 92) * 100000 + FT)
+    for byte in (0x60, 0xEF, 0xFA, 0xFF):
         add("%s ends in hex %02X" % (name, byte), [N], at(FT, end, end, bytes([byte])), expect=1000006)
 BOTH = [N, ("W", 2, 1, 1, 0)]
 last = last_of(BOTH)
@@ -461,7 +479,7 @@ add("TotalAmount wraps 2^64", [N], money(FT, 105, 2**64 + 100), expect=1300006)
 # 01 File answers: two at once, and all from one on: the lower number is answered
 WRONG = {  # by reason: changes, and what is lent
     4: ([], dict(book=len(BOOK) - 1)), 5: ([coded_as(DX, "BT")], {}), 6: ([], dict(report=127)), 7: ([at(BT, 3, 3, b"\0")], {}),
-    8: ([put(FH, 2, "LEDGERS")], {}), 9: ([put(FH, 3, "200")], {}), 10: ([at(FT, 39, 39, b"\x40")], {}), 11: ([money(FT, 103, 7)], {}),
+    8: ([put(FH, 2, "LEDGERS")], {}), 9: ([put(FH, 3, "200")], {}), 10: ([at(FT, 40, 40, b"\x40")], {}), 11: ([money(FT, 103, 7)], {}),
     12: ([money(FT, 104, 2)], {}), 13: ([money(FT, 105, 101)], {}),
 }
 NAMED = {4: 0, 5: 4, 6: 0, 7: 5, 8: 1, 9: 1, 10: 6, 11: 6, 12: 6, 13: 6}
@@ -503,8 +521,8 @@ add("10^20, an FT of nines", [N, W], paid([N, W], {(0, 0): 5 * 10**19, (1, 0): 5
 add("twenty nines and 1 in a batch", TWO, paid(TWO, {(0, 0): NINES, (0, 1): 1}), expect=1300008)
 add("twenty nines and 1, an FT of zeros", TWO, paid(TWO, {(0, 0): NINES, (0, 1): 1}), at(8, 39, 58, b"\xF0"), expect=1300008)
 add("ten of twenty nines", [("A", 10, 1, 0, 0)], paid([("A", 10, 1, 0, 0)], {(0, p): NINES for p in range(10)}), at(24, 39, 58, ebcdic(amount(10**20 - 10))), expect=1300024)
-add("an amount of no digits counts as zero", TWO, put(3, 24, "100"), money(7, 100, 100), money(2, 9, 100), money(8, 105, 100), expect=fault(2, 3, 24))
-add("the same, and an FT that counts it", TWO, put(3, 24, "100"), money(7, 100, 100), money(2, 9, 100), expect=1300008)
+add("an amount of no digits counts as zero", TWO, put(3, 24, "1 00"), money(7, 100, 100), money(2, 9, 100), money(8, 105, 100), expect=fault(2, 3, 24))
+add("the same, and an FT that counts it", TWO, put(3, 24, "1 00"), money(7, 100, 100), money(2, 9, 100), expect=1300008)
 
 # 01 Slips: a lone credit, field 88
 CREDIT = "COLL"
@@ -576,6 +594,264 @@ add("a kind more, all blank", LINES, thousand, at(last_dt, *BLANK_KIND), expect=
 add("a kind more, all blank, the first", LINES, thousand, at(first_dt, *BLANK_KIND), expect=fault(12, 2, 76))
 add("999 kinds and the blank one", [("W", 10, 1, 100, 0)], thousand, at(numbers([("W", 10, 1, 100, 0)])[0][1][-1][-1], *BLANK_KIND), expect=SOUND)
 add("999 kinds and the blank one twice", LINES, kinds(999), at(last_dt - 1, *BLANK_KIND), at(last_dt, *BLANK_KIND), expect=SOUND)
+
+# W3: numbers, zero-padded if they are one run of digits. A record of FULL, a value that leaves two places free, and a batch.
+PLAIN, CHECK, WIRE = [[(letter, 1, 1, 1, 1)] for letter in "NCW"]
+SHORT = {
+    9: (2, "100", PLAIN), 12: (2, "1030004", WIRE), 13: (2, "1000146", PLAIN), 15: (2, "12", CHECK), 18: (2, "99", CHECK), 19: (2, "340000", CHECK),
+    20: (2, "24", CHECK), 24: (3, "100", PLAIN), 36: (3, "902", PLAIN), 42: (3, "1000013", WIRE), 43: (3, "1000013", PLAIN), 58: (3, "340000", CHECK),
+    87: (5, "100", PLAIN), 96: (6, "100", PLAIN), 99: (7, "1", PLAIN), 100: (7, "100", PLAIN), 103: (8, "8", PLAIN), 104: (8, "1", PLAIN), 105: (8, "100", PLAIN),
+}
+assert set(SHORT) == NUMBERS
+OF_PAYMENT = 3, 4, 5, 6  # its records
+
+
+def matching(field, value):
+    """With 18, 19 or 58 in a check batch, what has to match them: zero-padded where they are numbers, and not moved again."""
+    put_there = corrected(value.ljust(width_of(field)), field)
+    if field == 18:
+        return [put(2, 6, put_there + SERIAL), named(put_there + SERIAL, *OF_PAYMENT)]
+    if field == 19:
+        return [put(2, 6, SYMBOL + put_there), put(3, 58, put_there), named(SYMBOL + put_there, *OF_PAYMENT)]
+    first = [put(2, 19, put_there), put(2, 6, SYMBOL + put_there)] * put_there.isdigit()
+    return [*first, named(SYMBOL + put_there, *OF_PAYMENT)]
+
+
+def with_number(label, field, value, before, expect, batches=None):
+    """The number stands behind so many blanks, and what has to match it does."""
+    rec, _, own = SHORT[field]
+    other = matching(field, " " * before + value) if field in (18, 19, 58) else []
+    uncounted = [money(8, 105, 0)] * (field == 24 and not value.isdigit())
+    add("%d %s" % (field, label), batches or own, *other, *uncounted, placed(rec, field, value, before), expect=expect)
+
+
+for field, (rec, value, _) in SHORT.items():
+    free = width_of(field) - len(value)
+    good = {18: fault(8, rec, 18), 20: fault(5, rec, 20)}.get(field, SOUND)  # symbol 0099, month 00
+    bad = 1000000 + rec if field > 100 else fault(2, rec, field)
+    blank = {18: fault(7, 2, 6), 36: SOUND, 96: SOUND}.get(field, bad if field > 100 else fault(1, rec, field))
+    with_number("with blanks before it", field, value, free, good)
+    with_number("with blanks after it", field, value, 0, good)
+    with_number("with blanks on both sides", field, value, 1, good)
+    with_number("with a blank inside", field, value[:-1] + " " + value[-1] if len(value) > 1 else "0 " + value, 0, bad)
+    with_number("with blanks inside and before it", field, value[0] + " " + value[-1], 1, bad)
+    with_number("with a letter, behind a blank", field, value[:-1] + "A", 1, bad)
+    with_number("blank", field, "", 0, blank)
+for letter in "CWIA":
+    with_number("with blanks before it, " + letter, 24, "100", 17, SOUND, [(letter, 1, 1, 1, 1)])
+    with_number("with blanks inside, " + letter, 24, "1 00", 0, fault(2, 3, 24), [(letter, 1, 1, 1, 1)])
+for value, before, answer in [("224", 1, SOUND), ("224", 0, SOUND), ("1324", 0, fault(5, 2, 20)), ("124", 1, SOUND), ("1 24", 0, fault(2, 2, 20))]:
+    with_number("holds %s behind %d blanks" % (value, before), 20, value, before, answer)
+for value, before, answer in [("0", 1, SOUND), ("0", 4, SOUND), ("000", 1, SOUND), ("0 0", 1, fault(2, 3, 36)), ("1", 4, SOUND)]:
+    with_number("holds %s behind %d blanks" % (value, before), 36, value, before, answer)
+for value, answer in [("0", fault(3, 3, 48)), ("2", fault(3, 3, 48)), ("00", SOUND), ("", SOUND)]:
+    add("48 holds %s at its right end" % (value or "blanks"), [N], at_right(DETAIL, 48, value), expect=answer)
+for field, rec, batch in [(12, HEAD, W), (13, HEAD, N), (42, DETAIL, W), (43, DETAIL, N)]:
+    add("%d holds 0 behind blanks" % field, [batch], at_right(rec, field, "0"), expect=SOUND)
+    add("%d holds 13 behind blanks: prefix 00" % field, [batch], at_right(rec, field, "13"), expect=SOUND)
+    add("%d holds eight digits: prefix 08" % field, [batch], put(rec, field, "80000000"), expect=SOUND)
+    add("%d holds nine digits less a blank: 2" % field, [batch], put(rec, field, "8000 0001"), expect=fault(2, rec, field))
+for byte in (0x41, 0xA0, 0xFF):
+    add("9 behind hex %02X, which is no blank" % byte, [N], at(HEAD, 33, 33, bytes([byte])), expect=fault(2, HEAD, 9))
+    add("TotalCount behind hex %02X, no blank" % byte, [N], at(FT, 21, 21, bytes([byte])), expect=1000006)
+    add("a location behind hex %02X, no blank" % byte, [N], at(HEAD, 78, 78, bytes([byte])), expect=fault(4, HEAD, 14))
+add("9 behind hex 3F", [N], at(HEAD, 33, 33, b"\x3F"), expect=700002)
+add("a hex 40 before an ASCII number: no blank", [N], ASCII, at(HEAD, 33, 33, b"\x40"), expect=fault(2, HEAD, 9))
+add("a hex 20 before an ASCII number: a blank", [N], ASCII, at(HEAD, 33, 33, b"\x20"), expect=SOUND)
+add("numbers that count in sums: 60 and 40, moved", [("N", 1, 1, 2, 2)], *[put(n, f, v) for n, f, v in ((5, 87, "60"), (6, 87, "  40"), (7, 96, " 60"), (8, 96, "40"))], expect=SOUND)
+add("numbers that count in sums: 60 and 4 0", [("N", 1, 1, 2, 0)], put(5, 87, "60"), put(6, 87, "4 0"), expect=fault(2, 6, 87))
+add("a lone zero behind blanks in 96 is filled", [("N", 1, 1, 0, 1)], at_right(5, 96, "0"), expect=fault(10, 3, 96))
+add("an amount of 0 behind blanks", [W], at_right(DETAIL, 24, "0"), money(BT, 100, 0), money(HEAD, 9, 0), money(FT, 105, 0), expect=fault(8, DETAIL, 24))
+add("amounts at different places, of two payments", TWO, put(3, 24, "100"), at_right(5, 24, "100"), expect=SOUND)
+add("an amount moved counts in FT", TWO, put(3, 24, " 1000"), put(7, 100, "1100"), put(2, 9, "1100"), put(8, 105, "  1100"), expect=SOUND)
+add("an amount moved, and an FT that leaves it out", TWO, put(3, 24, " 100"), money(8, 105, 100), expect=1300008)
+add("BT's count moved, and wrong", [A], put(BT, 99, "  2"), expect=fault(13, BT, 99))
+add("BT's amount moved, and wrong", [A], put(BT, 100, "  1000"), expect=fault(14, BT, 100))
+add("field 9's sum moved, and wrong", [A], put(HEAD, 9, "  10"), expect=fault(14, HEAD, 9))
+for field, value, reason in [(103, "7", 11), (104, "2", 12), (105, "10", 13)]:
+    add(NAMES[field] + " moved, and wrong", [N], put(FT, field, "  " + value), expect=reason * 100000 + FT)
+add("FT's three numbers moved", [N], put(FT, 103, "6"), at_right(FT, 104, "1"), put(FT, 105, "  100"), expect=SOUND)
+add("FT's numbers across their borders", [N], at(FT, 3, 58, b"\x40"), at(FT, 19, 22, ebcdic("06 1")), at_right(FT, 105, "100"), expect=SOUND)
+add("FT's three numbers split", [N], put(FT, 103, "0 6"), put(FT, 104, "0 1"), put(FT, 105, "1 00"), expect=1000006)
+add("a check of ten nines, moved", [C], paid([C], {(0, 0): 9999999999}), put(DETAIL, 24, " 9999999999"), expect=SOUND)
+add("a check of 10^10, moved", [C], paid([C], {(0, 0): 10**10}), put(DETAIL, 24, " 10000000000"), expect=fault(8, DETAIL, 24))
+add("a voided check of 0, moved", [C], put(DETAIL, 24, " 0"), put(DETAIL, 25, "1"), money(BT, 100, 0), money(FT, 105, 0), expect=SOUND)
+
+# W3: field 7 is moved right and padded with zeros
+for value, answer in [("123", SOUND), ("   123", SOUND), (" 123", SOUND), ("1", SOUND), ("     1", SOUND), ("AB", SOUND), (" A-B", SOUND), ("1 3", fault(2, 2, 7)),
+                      (" 1 3", fault(2, 2, 7)), ("1    3", fault(2, 2, 7)), ("   1 3", fault(2, 2, 7)), ("00012", SOUND), ("", fault(1, 2, 7))]:
+    add("7 holds '%s'" % value.ljust(6), [I], put(HEAD, 7, value), expect=answer)
+
+# W3: dates stay where they stand
+for field, rec, batch, days in [(8, 2, N, ["2024-02-29", " 024-02-29", "024-02-29", " 2024-02-2"]), (56, 3, A, ["2024-02-29", " 024-02-29", "024-02-29"]),
+                                (17, 2, C, ["20240229", " 0240229", "0240229", "2024 229", " 2024022"]), (59, 3, C, ["20240229", " 0240229", "0240229"])]:
+    for day in days:
+        add("%d holds '%s'" % (field, day.ljust(width_of(field))), [batch], put(rec, field, day), expect=SOUND if day == days[0] else fault(5, rec, field))
+
+# W3: text is moved left. In the book each code may be a short one, which leaves its field places to stand at.
+ENTRY = [width + flag for _, width, flag in KINDS]
+
+
+def code_put(kind, n, value):
+    """The n-th code of a kind, from 0; its flag stays."""
+    first = STARTS[kind - 1] + 6 + n * ENTRY[kind - 1]
+    width = KINDS[kind - 1][1]
+    filled = len(value) - len(value.lstrip(" "))
+    text = value.strip(" ")
+    return [code(first, b"\x40", width)] * (len(text) < width) + [code(first + filled, ebcdic(text))] * (text != "")
+
+
+LOOKED_UP = {  # by field: record, kind, which of its two codes, short codes for it
+    2: (1, 1, 0, ["LEDGER", "L"]), 14: (2, 2, 1, ["0000567", "5"]), 28: (3, 4, 1, ["Vendor", "V"]), 29: (3, 2, 1, ["0000567", "5"]), 35: (3, 5, 0, ["C"]),
+    38: (3, 6, 1, ["U"]), 52: (3, 7, 1, ["US", "U"]), 86: (5, 3, 1, ["DISB", "D"]),
+}
+for field, (rec, kind, n, values) in LOOKED_UP.items():
+    batch = CHECK if field == 29 else PLAIN
+    absent = 800001 if field == 2 else fault(4, rec, field)
+    for value in values:
+        name = "%d holds %s" % (field, value)
+        lists = code_put(kind, n, value)
+        add(name + " behind a blank", batch, lists, placed(rec, field, value, 1), expect=SOUND)
+        add(name + " at its right end", batch, lists, at_right(rec, field, value), expect=SOUND)
+        add(name + " at its left, the book's moved", batch, code_put(kind, n, " " + value), put(rec, field, value), expect=SOUND)
+        add(name + ", the book's at its right end", batch, code_put(kind, n, value.rjust(KINDS[kind - 1][1])), placed(rec, field, value, 1), expect=SOUND)
+    add("%d holds X at its right end" % field, batch, at_right(rec, field, "X"), expect=absent)
+    if width_of(field) > 2:
+        add("%d holds a code with a blank inside" % field, batch, code_put(kind, n, values[0]), placed(rec, field, values[0][:1] + " " + values[0][1:], 0), expect=absent)
+add("a reporter's location moved", [N], code_put(2, 0, "0000123"), placed(2, 14, "0000123", 1), expect=fault(11, 3, 76))
+add("a reporter's location moved in the book", [N], code_put(2, 0, " 0000123"), put(2, 14, "0000123"), expect=fault(11, 3, 76))
+add("a check's reporter moved", [C], code_put(2, 0, "0000123"), placed(3, 29, "0000123", 1), expect=fault(11, 3, 76))
+for field, value in [(80, "20"), (80, "0"), (84, "123"), (84, "1"), (85, "00"), (85, "0"), (86, "DISB"), (86, "COLL")]:
+    add("a reporter's %d holds %s at its right end" % (field, value), ONE_DT, put(2, 14, "00001234"), at_right(5, field, value), expect=SOUND)
+add("a credit moved is a credit", TWO_DT, money(5, 87, 130), money(6, 87, 30), at_right(6, 86, CREDIT), expect=SOUND)
+add("a credit moved in the book is a credit", TWO_DT, code_put(3, 0, " COLL"), money(5, 87, 130), money(6, 87, 30), put(6, 86, CREDIT), expect=SOUND)
+add("two credits of 50, moved, do not balance", TWO_DT, [c for n in (5, 6) for c in (at_right(n, 86, CREDIT), money(n, 87, 50))], expect=fault(9, 3, 87))
+for field, rec, batch, values in [
+        (10, 2, N, {" 215": SOUND, "   5": fault(3, 2, 10), " 551": fault(3, 2, 10), "21 5": fault(3, 2, 10), " 21 ": fault(3, 2, 10)}),
+        (44, 3, W, {" CT": fault(3, 3, 44), "  C": fault(3, 3, 44)}), (48, 3, N, {" 2": fault(3, 3, 48)}), (62, 3, N, {" CC": fault(3, 3, 62), "  C": fault(3, 3, 62)}),
+        (51, 3, I, {" Electronic": SOUND, "Electronic".rjust(20): SOUND, " Check": SOUND, "Check".rjust(20): SOUND, " Western Union": SOUND,
+                    "Western Union".rjust(20): SOUND, " Western  Union": fault(3, 3, 51), "WesternUnion".rjust(20): fault(3, 3, 51), "E".rjust(20): fault(3, 3, 51)}),
+        (26, 3, N, {" Ann": SOUND, "A".rjust(47): SOUND}), (54, 3, A, {" A": SOUND, "A".rjust(14): SOUND}), (55, 3, A, {" A": SOUND, "A".rjust(20): SOUND}),
+        (66, 4, N, {" Ann": SOUND, "A".rjust(150): SOUND}), (6, 2, N, {" A": SOUND, "A".rjust(14): SOUND, " " + IDENT: SOUND}),
+        (6, 2, C, {" " + IDENT: SOUND, "  " + IDENT: SOUND, IDENT[:4] + " " + IDENT[4:]: fault(7, 2, 6)}),
+        (16, 2, C, {"0": SOUND, "": fault(1, 2, 16)}), (25, 3, C, {"0": SOUND, "": fault(1, 3, 25)})]:
+    for value, answer in values.items():
+        before = len(value) - len(value.lstrip())
+        add("%d, %s, holds %s behind %d blanks" % (field, batch[0], value.strip(), before), [batch], placed(rec, field, value.strip(), before), expect=answer)
+for value in [" 01", "  1", "2 1", "01 "]:
+    add("version '%s'" % value, [N], put(FH, 3, value), expect=900001)
+for before in (1, 2, 33):
+    add("InputSystem PAYROLL behind %d blanks" % before, [N], placed(FH, 2, "PAYROLL", before), expect=SOUND)
+add("InputSystem behind blanks, with one inside", [N], placed(FH, 2, "PAY ROLL", 3), expect=800001)
+add("InputSystem with a blank inside, the book's too", [N], placed(FH, 2, "PAY ROLL", 3), code_put(1, 1, " PAY ROLL"), expect=SOUND)
+add("InputSystem behind hex 41, which is no blank", [N], at(FH, 3, 10, b"\x41" + ebcdic("PAYROLL")), expect=800001)
+
+# W3: the order of the book's codes is that of the moved ones
+SHORTENED = {2: [14], 5: [35], 6: [38], 7: [52]}  # by kind: the field that is to hold a code of a byte less
+for kind, (_, width, flag) in enumerate(KINDS, 1):
+    one, other = [SECTIONS[kind - 1][6 + n * (width + flag):][:width].decode("cp037").strip()[:width - 1] for n in range(2)]
+    first, second = code_put(kind, 0, one), code_put(kind, 1, other)
+    user = [put(2 if field == 14 else 3, field, other) for field in SHORTENED.get(kind, [])]
+    name = "book, section %d: " % kind
+    add(name + "ascends after correction", PLAIN, first, code_put(kind, 1, other.rjust(width)), user, expect=SOUND)
+    add(name + "ascends either way", PLAIN, code_put(kind, 0, " " + one), second, user, expect=SOUND)
+    add(name + "ascends before correction only", PLAIN, code_put(kind, 0, " " + other), code_put(kind, 1, one), expect=400000)
+    add(name + "equal but for their place", PLAIN, code_put(kind, 0, " " + one), code_put(kind, 1, one), expect=400000)
+    add(name + "falls either way", PLAIN, code_put(kind, 0, other), code_put(kind, 1, " " + one), expect=400000)
+    add(name + "a blank code first", PLAIN, code_put(kind, 0, ""), code_put(kind, 1, " " + other), user, expect=SOUND)
+    add(name + "a blank code last", PLAIN, first, code_put(kind, 1, ""), expect=400000)
+add("book, a code behind hex 20, which is no blank", [N], code(6 + 40, b"\x20" + ebcdic("PAYROLL")), expect=400000)
+add("book, a code behind hex 00, which is no blank", [N], code(6, b"\0" + ebcdic("LEDGER")), put(FH, 2, "LEDGER"), expect=800001)
+
+# W3: Payment IDs nest and repeat after they are moved
+ALL = [("W", 1, 1, 1, 1)]
+for rec, name in [(3, "the detail"), (4, "DX"), (5, "DT"), (6, "DP")]:
+    other = 4 if rec == 3 else rec
+    for before in (1, 2, 8):
+        add("the ID of %s behind %d blanks" % (name, before), ALL, placed(rec, 23, IDENT, before), expect=SOUND)
+    add("the ID of %s with a blank inside" % name, ALL, put(rec, 23, IDENT[:4] + " " + IDENT[4:]), expect=500000 + other)
+    add("the ID of %s behind hex 41, no blank" % name, ALL, at(rec, 3, 15, b"\x41" + ebcdic(IDENT)), expect=500000 + other)
+    add("the ID of %s behind hex 00, no blank" % name, ALL, at(rec, 3, 15, b"\0" + ebcdic(IDENT)), expect=500000 + other)
+    add("the ID of %s behind an ASCII tab" % name, ALL, ASCII, at(rec, 3, 15, b"\t" + IDENT.encode("ascii")), expect=500000 + other)
+    add("the ID of %s behind an ASCII blank" % name, ALL, ASCII, at(rec, 3, 15, b" " + IDENT.encode("ascii")), expect=SOUND)
+    add("the ID of %s behind hex 40 in ASCII" % name, ALL, ASCII, at(rec, 3, 15, b"\x40" + IDENT.encode("ascii")), expect=500000 + other)
+for letter in LETTERS:
+    add("each ID of a payment at its own place, " + letter, [(letter, 1, 1, 1, 1)], *[placed(rec, 23, IDENT, rec) for rec in OF_PAYMENT], expect=SOUND)
+add("IDs of one byte at different places", ALL, *[placed(rec, 23, "A", (rec - 3) * 19 // 3) for rec in OF_PAYMENT], expect=SOUND)
+add("IDs with equal blanks inside", ALL, *[placed(rec, 23, "A  B", rec) for rec in OF_PAYMENT], expect=SOUND)
+add("IDs with unequal blanks inside", ALL, *[placed(rec, 23, "A  B" if rec < 6 else "A   B", rec) for rec in OF_PAYMENT], expect=500006)
+add("IDs of 20 bytes", ALL, *[put(rec, 23, "A" * 19 + "B") for rec in OF_PAYMENT], expect=SOUND)
+add("IDs of 20 bytes but one, moved", ALL, *[placed(rec, 23, "A" * 18 + "B", rec % 2) for rec in OF_PAYMENT], expect=SOUND)
+add("a DX with the earlier payment's ID, moved", [("N", 2, 1, 0, 0)], placed(6, 23, IDENT, 2), expect=500006)
+add("a blank ID of a DX is not its detail's", ALL, placed(3, 23, IDENT, 2), put(4, 23, ""), expect=500004)
+for letter in LETTERS:
+    add("Payment IDs equal but for their place, " + letter, [(letter, 2, 1, 0, 0)], placed(5, 23, IDENT, 1), placed(6, 23, IDENT, 3), expect=fault(6, 5, 23))
+add("the first Payment ID moved, the second not", [("I", 2, 1, 0, 0)], placed(3, 23, IDENT, 8), placed(4, 23, IDENT, 8), named(IDENT, 5, 6), expect=fault(6, 5, 23))
+add("the third payment repeats the first, moved", [("I", 3, 1, 0, 0)], placed(7, 23, IDENT, 5), placed(8, 23, IDENT, 6), expect=fault(6, 7, 23))
+add("Payment IDs that differ in a blank inside", [("I", 2, 1, 0, 0)], named("A B", 3, 4), *[placed(n, 23, "AB", 2) for n in (5, 6)], expect=SOUND)
+add("IDs that fall before correction, climb after", [("I", 2, 1, 0, 0)], named("A", 3, 4), *[placed(n, 23, "B", 2) for n in (5, 6)], expect=SOUND)
+add("IDs that climb before correction, fall after", [("I", 3, 1, 0, 0)], *[placed(n, 23, "B", 2) for n in (3, 4)], named("A", 5, 6), named("B", 7, 8), expect=fault(6, 7, 23))
+for batches, value in [([N, W], IDENT), ([A, I], IDENT), ([C, C], IDENT)]:
+    for before in (1, 2):
+        add("schedule numbers equal but for their place, %s %d" % (batches[0][0], before), batches, placed(6, 6, value, before), expect=fault(6, 6, 6, 2))
+add("schedule numbers equal, the first moved", [N, W], placed(2, 6, IDENT, 2), put(6, 6, IDENT), expect=fault(6, 6, 6, 2))
+add("the third batch repeats the first, moved", [N, W, I], placed(10, 6, IDENT, 1), expect=fault(6, 10, 6, 3))
+add("schedule numbers that differ in a blank inside", [N, W], put(2, 6, "A B"), placed(6, 6, "AB", 2), expect=SOUND)
+add("schedule numbers of one byte at two places", [N, W, I], put(2, 6, "B"), put(6, 6, " A"), at_right(10, 6, "B"), expect=fault(6, 10, 6, 3))
+
+# W3: check symbol matching
+for value, before in [("999", 0), ("999", 1), ("99", 1), ("0", 3)]:
+    name, zeros = "18 holds %s behind %d blanks" % (value, before), value.zfill(4)
+    short = placed(2, 18, value, before)
+    add(name, [C], short, put(2, 6, zeros + SERIAL), named(zeros + SERIAL, 3, 4), expect=fault(8, 2, 18))
+    add(name + ", 6 without zeros", [C], short, put(2, 6, value + SERIAL), named(zeros + SERIAL, 3, 4), expect=fault(7, 2, 6))
+    add(name + ", 6 as 18", [C], short, put(2, 6, (" " * before + value).ljust(4) + SERIAL), expect=fault(7, 2, 6))
+for value, before in [("340000", 0), ("340000", 2), ("340000", 1), ("0", 7), ("7", 0)]:
+    name, zeros = "%s behind %d blanks" % (value, before), value.zfill(8)
+    sound = [put(2, 6, SYMBOL + zeros), put(2, 19, zeros), put(3, 58, zeros), named(SYMBOL + zeros, 3, 4)]
+    add("19 holds " + name, [C], *sound, placed(2, 19, value, before), expect=SOUND)
+    add("19 and 58 hold " + name, [C], *sound, placed(2, 19, value, before), at_right(3, 58, value), expect=SOUND)
+    add("19 holds %s, no zeros in 6" % name, [C], *sound, placed(2, 19, value, before), put(2, 6, SYMBOL + value), expect=fault(7, 2, 6))
+    add("19 holds %s, 6 and 23 moved" % name, [C], *sound, placed(2, 19, value, before), placed(2, 6, SYMBOL + zeros, 2), placed(3, 23, SYMBOL + zeros, 8), expect=SOUND)
+    add("58 holds %s" % name, [C], *sound, placed(3, 58, value, before), expect=SOUND)
+    add("58 holds %s, no zeros in 23" % name, [C], *sound, placed(3, 58, value, before), named(SYMBOL + value, 3, 4), expect=fault(7, 3, 23))
+add("58 moved, and not the next", [C], placed(3, 58, "340001", 1), named(SYMBOL + "00340001", 3, 4), expect=fault(7, 3, 58))
+add("18 blank, 6 behind four blanks: not moved again", [C], put(2, 18, ""), put(2, 6, "    " + SERIAL), expect=fault(7, 2, 6))
+add("18 blank, 6 is the serial: not moved again", [C], put(2, 18, ""), put(2, 6, SERIAL), named(SERIAL, 3, 4), expect=fault(7, 2, 6))
+add("18 and 19 blank, 6 filled", [C], put(2, 18, ""), put(2, 19, ""), put(2, 6, "0"), expect=fault(7, 2, 6))
+add("18, 19 and 6 blank", [C], put(2, 18, ""), put(2, 19, ""), put(2, 6, ""), expect=fault(1, 2, 6))
+add("19 blank, 6 is the symbol", [C], put(2, 19, ""), put(2, 6, SYMBOL), expect=fault(1, 2, 19))
+add("19 blank, 6 is the symbol at its right end", [C], put(2, 19, ""), at_right(2, 6, SYMBOL), expect=fault(1, 2, 19))
+add("58 blank, 23 is the symbol at its right end", [C], put(3, 58, ""), at_right(3, 23, SYMBOL), put(4, 23, SYMBOL), expect=fault(1, 3, 58))
+add("18 of another shape is moved like text", [C], put(2, 18, " 1A"), put(2, 6, "1A  " + SERIAL), expect=fault(2, 2, 18))
+add("18 of another shape, 6 as 18 stands", [C], put(2, 18, " 1A"), put(2, 6, " 1A " + SERIAL), expect=fault(7, 2, 6))
+add("19 of another shape is moved like text", [C], put(2, 19, "  1 2"), put(2, 6, SYMBOL + "1 2"), expect=fault(2, 2, 19))
+add("19 of another shape, 6 as 19 stands", [C], put(2, 19, "  1 2"), put(2, 6, SYMBOL + "  1 2"), expect=fault(7, 2, 6))
+add("58 of another shape is moved like text", [C], put(3, 58, "  1 2"), named(SYMBOL + "1 2", 3, 4), expect=fault(2, 3, 58))
+add("58 of another shape, 23 as 58 stands", [C], put(3, 58, "  1 2"), named(SYMBOL + "  1 2", 3, 4), expect=fault(7, 3, 23))
+TWICE = [("C", 2, 1, 0, 0)]
+add("two checks, 9 and 10 without zeros", TWICE, put(2, 19, " 9"), put(2, 6, SYMBOL + "00000009"), put(3, 58, "9"), named(SYMBOL + "00000009", 3, 4),
+    at_right(5, 58, "10"), named(SYMBOL + "00000010", 5, 6), expect=SOUND)
+add("two checks, 9 and 11 without zeros", TWICE, put(2, 19, " 9"), put(2, 6, SYMBOL + "00000009"), put(3, 58, "9"), named(SYMBOL + "00000009", 3, 4),
+    at_right(5, 58, "11"), named(SYMBOL + "00000011", 5, 6), expect=fault(7, 5, 58))
+
+# W3: kinds of TAS/BETC; first_dt and last_dt are of one kind, and of 1000 in all
+(_, payments, end), = numbers(LINES)
+for field in (78, 79, 80, 81, 82, 84, 85):
+    width = width_of(field)
+    add("one kind, by field %d X at two places" % field, LINES, thousand, put(first_dt, field, "X"), at_right(last_dt, field, "X"), expect=SOUND)
+    add("a kind more, by field %d X and Y moved" % field, LINES, thousand, put(first_dt, field, "X"), at_right(last_dt, field, "Y"), expect=fault(12, 2, 76))
+    add("a kind more, by field %d blank and X moved" % field, LINES, thousand, put(first_dt, field, ""), at_right(last_dt, field, "X"), expect=fault(12, 2, 76))
+    if width > 2:
+        add("a kind more, by field %d X Y and XY" % field, LINES, thousand, put(first_dt, field, "X Y"), at_right(last_dt, field, "XY"), expect=fault(12, 2, 76))
+for before in (1, 4):
+    add("one kind, by field 86 behind %d blanks" % before, LINES, thousand, placed(last_dt, 86, "DISB", before), expect=SOUND)
+add("a kind more, by field 86 moved", LINES, thousand, at_right(last_dt, 86, CREDIT), expect=fault(12, 2, 76))
+add("a kind more: X in 78 and X in 79", LINES, thousand, at(first_dt, 23, 27, b"\x40"), at(last_dt, 23, 27, b"\x40"), put(first_dt, 78, "X"), put(last_dt, 79, "X"), expect=fault(12, 2, 76))
+add("a kind more: X ends 78, X begins 79", LINES, thousand, at(first_dt, 23, 27, b"\x40"), at(last_dt, 23, 27, b"\x40"), at_right(first_dt, 78, "X"), put(last_dt, 79, "X"), expect=fault(12, 2, 76))
+add("a kind more: 81 holds 1 and 0001, which are text", LINES, kinds(1000, 38), put(first_dt, 81, " 1"), put(last_dt, 81, "0001"), expect=fault(12, 2, 76))
+add("1001 kinds of moved values", LINES, kinds(1001, 38), *[put(n, 78, " X") for n in payments[0][2:12]], expect=fault(12, 2, 76))
+
 
 # W1: its place among the findings
 add("both 12 and BT's count", LINES, kinds(1001), money(end, 99, 12), expect=fault(12, 2, 76))
@@ -652,6 +928,29 @@ for k in range(1, 121):
     letters = "C" * rng.randrange(1, 4) if k % 4 == 0 else rng.choices(VOUCHERS, k=rng.randrange(1, 5))
     batches = [(letter, rng.randrange(1, 4), rng.randrange(1, 3), rng.randrange(3), rng.randrange(3)) for letter in letters]
     add("several batches, %d" % k, batches, *[any_change(whole(batches)) for _ in range(rng.randrange(1, 6))], expect=None)
+
+# W3: files of several batches with values moved anywhere, and faults: the judge above decides
+MOVABLE = {"FH": [2], "DX": [65, 66], "DT": [77, 80, 84, 85, 86, 87], "DP": [91, 96], "BT": [99, 100], "FT": [103, 104, 105]}
+MOVABLE.update({"B" + letter: [6, 7, 9, 10, 12, 13, 14, 15, 18, 19, 20] for letter in LETTERS})
+MOVABLE.update({"D" + letter: [23, 24, 26, 28, 29, 35, 36, 38, 42, 43, 51, 52, 54, 55, 58] for letter in LETTERS})
+
+
+def any_move(records):
+    """A field of a record, whose value, without zeros before it where it is a number, stands at any place; or, of ten, one split."""
+    n = rng.randrange(len(records))
+    field = rng.choice(MOVABLE[code_of(records[n])])
+    value = held(records[n], field).strip(" ")
+    value = value.lstrip("0") if field in NUMBERS else value
+    if rng.randrange(10) == 0:
+        value = (value[:1] + " " + value[1:])[:width_of(field)]
+    return placed(n + 1, field, value, rng.randrange(width_of(field) - len(value) + 1))
+
+
+for k in range(1, 81):
+    letters = "C" * rng.randrange(1, 4) if k % 4 == 0 else rng.choices(VOUCHERS, k=rng.randrange(1, 4))
+    batches = [(letter, rng.randrange(1, 3), 1, rng.randrange(2), rng.randrange(2)) for letter in letters]
+    moves = [any_move(whole(batches)) for _ in range(rng.randrange(1, 9))]
+    add("several batches, moved, %d" % k, batches, *moves, *[any_change(whole(batches)) for _ in range(rng.randrange(2))], expect=None)
 
 assert set(answers["EBCDIC"]) == set(range(14)) - {3}  # 3 takes a file of more than 55,704,750 bytes
 assert set(answers["ASCII"]) == set(answers["EBCDIC"]) - {1} and set(pairs["ASCII"]) == set(pairs["EBCDIC"])

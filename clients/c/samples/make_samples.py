@@ -72,6 +72,16 @@ def tab():
     return whole(FH, BN, put(DN, f23=ident), put(DX, f65=ident), BT)
 
 
+def moved():
+    """The program's sample with its values away from their places, which the judge corrects (02 W3): the IDs of a payment stand at two."""
+    right = lambda rec, field: held(rec, field).strip().rjust(PLACES[field][1] - PLACES[field][0] + 1)
+    return b"".join([
+        put(FH, f2=right(FH, 2)), put(BN, f6=right(BN, 6), f7=" 1", f9=str(CENTS), f10=" 215", f13=" 0"),
+        put(DN, f23=" " + held(DN, 23).strip(), f24=" %d" % CENTS, f26=right(DN, 26), f28=right(DN, 28), f43="1"),
+        put(DX, f65=right(DX, 65), f66=right(DX, 66)), put(BT, f99="1", f100="  %d" % CENTS),
+        put(FT, f103="6", f104=" 1", f105=str(CENTS).rjust(20))])
+
+
 def in_ascii(file):
     """The file as an ASCII sender writes it (02 W2)."""
     return file.decode("cp037").encode("ascii")
@@ -82,6 +92,7 @@ SAMPLES = {
     "large": large(),
     "shuffled": shuffled(),
     "checks": checks(),
+    "moved": moved(),
     "rejected": rejected(),
     "kinds": kinds(),
     "refused": shipped.replace(DX, put(DX, "BT")),

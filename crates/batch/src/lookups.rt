@@ -7,6 +7,7 @@ use record::Line;
 use record::layout::*;
 use rules::Codes;
 ghost use mathlib.Core.Path.{_≡_};
+ghost use Prim.Native.Nat.{_≤_};
 ghost use lib.ListN.{length};
 ghost use Rattle.record.specs.Value.{Has, seen, held};
 ghost use Rattle.book.specs.Book.{Usable, listedAt};
@@ -42,7 +43,7 @@ pub(crate) fn betc_only(listed: bool) -> Codes
 
 // What the book says of the location in a field (14, 29).
 pub(crate) fn location(book: &[u8], shelves: Book, rec: &[u8], line: Line, field: Field) -> Listing
-    requires { ⌜ Usable (now book) shelves × Has (now rec) field ⌝ }
+    requires { ⌜ Usable (now book) shelves × Has (now rec) field × (field .width ≤ 40) ⌝ }
     ensures { λ r. ⌜ r ≡ location (listedAt (now (book .entry)) shelves) (held (seen line (now (rec .entry))) field) ⌝ }
 {
     let locations = shelves.locations;

@@ -1,6 +1,6 @@
 -- A section's entries, and what a binary search among them knows.
 -- Assumes nothing.
-use mathlib.Core.Path.{_≡_, refl, sym, _∙_}
+use mathlib.Core.Path.{_≡_, refl, sym, ap, _∙_}
 use mathlib.Core.Bool.{Bool, true, false, not}
 use mathlib.Core.List.{List, [], _∷_}
 use Prim.Native.Nat.{ℕ, zero, suc, _+_, _-_, _*_, _≤_, _<_}
@@ -13,6 +13,7 @@ use lib.Seq.{drop-drop}
 use Rattle.record.specs.declared.Field.{Field}
 use Rattle.record.specs.declared.Order.{Order}
 use Rattle.record.specs.declared.Order.the-variants.{Before, Same, After}
+use Rattle.record.specs.Fields.{text}
 use Rattle.record.specs.Value.{Has, held, seen}
 use Rattle.record.specs.Choice.{choose}
 use Rattle.record.specs.Tests.{blank, alike}
@@ -90,7 +91,7 @@ keyAt book s j = key (s .code) (entriesAt book s) j
 
 -- where an entry's code stands
 abbrev codeField : Section → Field
-codeField s = record { start = 1; width = s .code }
+codeField s = text 1 (s .code)
 
 -- entry m as it is read from the book
 abbrev partAt : List ℕ → Section → ℕ → List ℕ
@@ -121,8 +122,8 @@ module _ (book : List ℕ) (s : Section) (x : List ℕ) (low high : ℕ) (b : So
     up : (i j : ℕ) → i < j → j < s .count → order (keyAt book s i) (keyAt book s j) ≡ Before
     up i j l h = ascends (s .code) (entriesAt book s) (sh .ascending) i j l (omega (arith, entries-length book s))
 
-    pub readable : low < high → Has (partAt book s (middle low high)) (codeField s)
-    readable l =
+    pub has-code : low < high → Has (partAt book s (middle low high)) (codeField s)
+    has-code l =
         let r = fits l in
         (omega arith, simp (add-sub-cancel-left, length-take, length-drop) (omega arith))
 
@@ -146,6 +147,21 @@ module _ (book : List ℕ) (s : Section) (x : List ℕ) (low high : ℕ) (b : So
 
       pub sought-lowered : r ≡ After → Sought book s x low (middle low high)
       sought-lowered t = lowered (keyAt book s) (s .count) x up (middle low high) low high b (omega arith) (omega arith) (sym known ∙ t)
+
+-- a part of the record as long as the field is what the field holds: the empty part is as long only where nothing is held
+part-held : (v part : List ℕ) (t : Bool) → part ≡ choose t [] v → length part ≡ length v → part ≡ v
+unfolding choose
+part-held v part false e h = e
+part-held [] part true e h = e
+part-held (x ∷ v) part true e h = absurd (omega (arith, h, ap length e))
+
+pub found-part : (width : ℕ) (es : List (List ℕ)) (v part r : List ℕ) (t : Bool) (n : ℕ) → part ≡ choose t [] v → length v ≡ n → length part ≡ n
+    → r ≡ entryFor width es part → r ≡ entryFor width es v
+found-part width es v part r t n e l h q = q ∙ ap (entryFor width es) (part-held v part t e (h ∙ sym l))
+
+-- a copy of what the field holds
+pub found-copy : (width : ℕ) (es : List (List ℕ)) (v copy r : List ℕ) → copy ≡ v → r ≡ entryFor width es copy → r ≡ entryFor width es v
+found-copy width es v copy r e q = q ∙ ap (entryFor width es) e
 
 -- what is shorter than an entry with a flag has none
 pub no-flag : (e : List ℕ) → length e < 9 → false ≡ flagOf e

@@ -8,6 +8,7 @@ use lib.ListN.{length, take, drop, getD}
 use Rattle.numbers.specs.Numbers.{little}
 use Rattle.record.specs.declared.Line.{Line}
 use Rattle.record.specs.Choice.{_and_, choose}
+use Rattle.record.specs.Fields.{text}
 use Rattle.record.specs.Value.{held, seen}
 use Rattle.record.specs.Tests.{every, blank, alike}
 use Rattle.record.specs.Ordering.{order, isBefore}
@@ -42,9 +43,9 @@ currencyKind = record { number = 7; code = 3; entry = 3 }
 abbrev pub lent : Line
 lent = record { number = 0; ascii = false }
 
--- the code of an entry
+-- the code of an entry: text, corrected before its order is tested (02 W3)
 unfoldable pub entryCode : ℕ → List ℕ → List ℕ
-entryCode width e = held (seen lent e) (record { start = 1; width = width })
+entryCode width e = held (seen lent e) (text 1 width)
 
 -- a flag is 1 or 0 (CARS Reporter or not, credit or debit)
 unfoldable pub flagged : ℕ → List ℕ → Bool

@@ -4,6 +4,7 @@ use crate::Kind;
 use crate::LENT;
 use crate::Section;
 use record::Field;
+use record::Justification;
 use record::Order;
 ghost use mathlib.Core.Path.{_≡_};
 ghost use Prim.Native.Nat.{_≤_, _<_, _+_};
@@ -125,7 +126,7 @@ fn has_flags(book: &[u8], section: Section) -> bool
     true
 }
 
-// The entry at `at` stands before the one after it, by their codes.
+// The entry at `at` stands before the one after it, by their codes as they are corrected (02 W3).
 fn is_pair(book: &[u8], at: usize, code: usize, entry: usize) -> bool
     requires { ⌜ (at + entry + entry ≤ length (now book)) × (code ≤ entry) ⌝ }
     ensures { λ r. ⌜ r ≡ isBefore (order (entryCode code (take entry (drop at (now (book .entry))))) (entryCode code (take entry (drop (at + entry) (now (book .entry)))))) ⌝ }
@@ -135,8 +136,9 @@ fn is_pair(book: &[u8], at: usize, code: usize, entry: usize) -> bool
     let field = Field {
         start: 1,
         width: code,
+        justification: Justification::Text,
     };
-    match record::fields_order(&book[at..next], LENT, field, &book[next..end], LENT, field) {
+    match record::fields_order(&book[at..next], LENT, &book[next..end], LENT, field) {
         Order::Before => true,
         Order::Same => false,
         Order::After => false,

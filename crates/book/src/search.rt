@@ -2,9 +2,11 @@
 use crate::LENT;
 use crate::Section;
 use record::Field;
+use record::Justification;
 use record::Line;
 use record::Order;
 ghost use mathlib.Core.Path.{_≡_};
+ghost use Prim.Native.Nat.{_≤_};
 ghost use Rattle.record.specs.Value.{Has, seen, held};
 ghost use Rattle.book.specs.Book.{Shelved, entriesAt, entryFor, flagOf, listing, said};
 
@@ -14,16 +16,17 @@ pub struct Listing {
     pub flagged: bool,
 }
 
-// The entry whose code the field holds, or an empty part where there is none.
-pub fn find<'a>(book: &'a [u8], section: Section, rec: &[u8], line: Line, field: Field) -> &'a [u8]
-    requires { ⌜ Shelved (now book) section × Has (now rec) field ⌝ }
-    ensures { λ r. ⌜ now r ≡ entryFor (section .code) (entriesAt (now (book .entry)) section) (held (seen line (now (rec .entry))) field) ⌝ }
+// The entry whose code is the value, or an empty part where there is none.
+fn find_value<'a>(book: &'a [u8], section: Section, value: &[u8]) -> &'a [u8]
+    requires { ⌜ Shelved (now book) section ⌝ }
+    ensures { λ r. ⌜ now r ≡ entryFor (section .code) (entriesAt (now (book .entry)) section) (now (value .entry)) ⌝ }
 {
     let start = section.start;
     let entry = section.entry;
     let code = Field {
         start: 1,
         width: section.code,
+        justification: Justification::Text,
     };
     let mut low = 0;
     let mut high = section.count;
@@ -31,7 +34,7 @@ pub fn find<'a>(book: &'a [u8], section: Section, rec: &[u8], line: Line, field:
         let middle = low + (high - low) / 2;
         let at = start + middle * entry;
         let end = at + entry;
-        match record::fields_order(&book[at..end], LENT, code, rec, line, field) {
+        match record::field_order(&book[at..end], LENT, code, value) {
             Order::Before => {
                 low = middle + 1;
             }
@@ -44,6 +47,23 @@ pub fn find<'a>(book: &'a [u8], section: Section, rec: &[u8], line: Line, field:
         }
     }
     &book[0..0]
+}
+
+// The entry whose code the field holds, or an empty part where there is none. A code that has to be translated or moved is copied first, so that
+// this is done once and not for each entry it is compared with.
+pub fn find<'a>(book: &'a [u8], section: Section, rec: &[u8], line: Line, field: Field) -> &'a [u8]
+    requires { ⌜ Shelved (now book) section × Has (now rec) field × (field .width ≤ 40) ⌝ }
+    ensures { λ r. ⌜ now r ≡ entryFor (section .code) (entriesAt (now (book .entry)) section) (held (seen line (now (rec .entry))) field) ⌝ }
+{
+    let width = field.width;
+    let part = record::field_part(rec, line, field);
+    if part.len() == width {
+        return find_value(book, section, part);
+    }
+    let mut copy = [0u8; 40];
+    let value = &mut copy[..width];
+    record::copy_field(rec, line, field, value);
+    find_value(book, section, value)
 }
 
 // The flag of the entry that was handed back: a CARS Reporter in kind 2, a credit in kind 3.
@@ -67,7 +87,7 @@ fn say(entry: &[u8]) -> Listing
 
 // What the section says of the field's code. Nothing is looked up for a blank field.
 pub fn look_up(book: &[u8], section: Section, rec: &[u8], line: Line, field: Field) -> Listing
-    requires { ⌜ Shelved (now book) section × Has (now rec) field ⌝ }
+    requires { ⌜ Shelved (now book) section × Has (now rec) field × (field .width ≤ 40) ⌝ }
     ensures { λ r. ⌜ r ≡ listing (section .code) (entriesAt (now (book .entry)) section) (held (seen line (now (rec .entry))) field) ⌝ }
 {
     if record::field_blank(rec, line, field) {

@@ -3,6 +3,7 @@
 use book::Book;
 use book::Section;
 use record::Field;
+use record::Justification;
 use record::Line;
 ghost use Prim.Native.Nat.{_≤_, _<_};
 ghost use Rattle.book.specs.Book.{Shelved, Usable};
@@ -24,7 +25,11 @@ fn show_section(book: &[u8], section: Section, query: &[u8; 40], width: usize)
             number: 0,
             ascii: false,
         },
-        Field { start: 1, width },
+        Field {
+            start: 1,
+            width,
+            justification: Justification::Text,
+        },
     );
     show(section.count);
     show(entry.len());

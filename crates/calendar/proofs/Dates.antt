@@ -1,16 +1,21 @@
 -- Dates in fields: the parts of a field that has the shape are digits, and the numbers that they write decide.
 -- Assumes nothing.
-use mathlib.Core.Path.{_≡_, refl, sym, _∙_}
+use mathlib.Core.Path.{_≡_, refl, sym, ap, _∙_}
 use mathlib.Core.Bool.{Bool, true, false}
 use mathlib.Core.List.{List}
 use Prim.Native.Nat.{ℕ, _≤_, _<_}
 use lib.Dec.{leb, eqb}
 use borrow.Author.Tests.{le-leb, lt-leb}
 use lib.ListN.{getD}
-use lib.Seq.{slice}
+use lib.Seq.{slice, take-all}
+use native.Mathlib.Omega.{arith}
+use Rattle.page.specs.CodePage.{shown}
+use Rattle.record.specs.declared.Field.{Field}
 use Rattle.record.specs.Choice.{_and_}
 use Rattle.record.specs.Tests.{digits}
 use Rattle.record.specs.Numeral.{numeral}
+use Rattle.record.specs.Value.{Has, written}
+use Rattle.record.proofs.Held.{written-length}
 use Rattle.record.proofs.Chain.{and-left, and-right, and-no, and-yes}
 use Rattle.calendar.specs.Calendar.{realDay, dashes, dashedDate, plainDate, monthYear}
 
@@ -51,3 +56,7 @@ module _ (xs : List ℕ) (r : Bool) (m : ℕ) (e : r ≡ digits xs) (t : r ≡ t
   pub month-read : 1 ≤ m → leb m 12 ≡ monthYear xs
   unfolding monthYear
   month-read h = and-yes _ _ _ (sym e ∙ t) (rw (← p) (and-yes _ _ _ (le-leb 1 m h) refl))
+
+-- a field of eight bytes, read over its full width
+pub eight : (ascii : Bool) (rec : List ℕ) (f : Field) (r : Bool) → Has rec f → f .width ≡ 8 → r ≡ digits (slice 0 8 (written (shown ascii rec) f)) → r ≡ digits (written (shown ascii rec) f)
+eight ascii rec f r h w e = e ∙ ap digits (take-all 8 (written (shown ascii rec) f) (omega (arith, written-length ascii rec f h)))

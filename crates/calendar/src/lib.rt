@@ -2,7 +2,7 @@
 use record::Field;
 use record::Line;
 ghost use mathlib.Core.Path.{_≡_};
-ghost use Rattle.record.specs.Value.{Has, seen, held};
+ghost use Rattle.record.specs.Value.{Has, seen, written, held};
 ghost use Rattle.calendar.specs.Calendar.{leap, daysIn, realDay, dashes, dashedDate, plainDate, monthYear};
 
 fn is_leap(year: u64) -> bool
@@ -53,46 +53,46 @@ fn is_real_day(year: u64, month: u64, day: u64) -> bool
 // The field has the shape CCYY-MM-DD.
 fn has_dashes(rec: &[u8], line: Line, field: Field) -> bool
     requires { ⌜ Has (now rec) field × (field .width ≡ 10) ⌝ }
-    ensures { λ r. ⌜ r ≡ dashes (held (seen line (now (rec .entry))) field) ⌝ }
+    ensures { λ r. ⌜ r ≡ dashes (written (seen line (now (rec .entry))) field) ⌝ }
 {
-    if !record::part_digits(rec, line, field, 0, 4) {
+    if !record::written_digits(rec, line, field, 0, 4) {
         return false;
     }
-    if !record::part_is(rec, line, field, 4, 0x60, 0x2D) {
+    if !record::written_is(rec, line, field, 4, 0x60, 0x2D) {
         return false;
     }
-    if !record::part_digits(rec, line, field, 5, 7) {
+    if !record::written_digits(rec, line, field, 5, 7) {
         return false;
     }
-    if !record::part_is(rec, line, field, 7, 0x60, 0x2D) {
+    if !record::written_is(rec, line, field, 7, 0x60, 0x2D) {
         return false;
     }
-    record::part_digits(rec, line, field, 8, 10)
+    record::written_digits(rec, line, field, 8, 10)
 }
 
-// The field is a date CCYY-MM-DD.
+// The field is a date CCYY-MM-DD, as it stands: a date is never moved (02 W3).
 pub fn date_ccyy_mm_dd(rec: &[u8], line: Line, field: Field) -> bool
     requires { ⌜ Has (now rec) field × (field .width ≡ 10) ⌝ }
-    ensures { λ r. ⌜ r ≡ dashedDate (held (seen line (now (rec .entry))) field) ⌝ }
+    ensures { λ r. ⌜ r ≡ dashedDate (written (seen line (now (rec .entry))) field) ⌝ }
 {
     if has_dashes(rec, line, field) {
-        let year = record::part_number(rec, line, field, 0, 4);
-        let month = record::part_number(rec, line, field, 5, 7);
-        let day = record::part_number(rec, line, field, 8, 10);
+        let year = record::written_number(rec, line, field, 0, 4);
+        let month = record::written_number(rec, line, field, 5, 7);
+        let day = record::written_number(rec, line, field, 8, 10);
         return is_real_day(year, month, day);
     }
     false
 }
 
-// The field is a date YYYYMMDD.
+// The field is a date YYYYMMDD, as it stands.
 pub fn date_yyyymmdd(rec: &[u8], line: Line, field: Field) -> bool
     requires { ⌜ Has (now rec) field × (field .width ≡ 8) ⌝ }
-    ensures { λ r. ⌜ r ≡ plainDate (held (seen line (now (rec .entry))) field) ⌝ }
+    ensures { λ r. ⌜ r ≡ plainDate (written (seen line (now (rec .entry))) field) ⌝ }
 {
-    if record::field_digits(rec, line, field) {
-        let year = record::part_number(rec, line, field, 0, 4);
-        let month = record::part_number(rec, line, field, 4, 6);
-        let day = record::part_number(rec, line, field, 6, 8);
+    if record::written_digits(rec, line, field, 0, 8) {
+        let year = record::written_number(rec, line, field, 0, 4);
+        let month = record::written_number(rec, line, field, 4, 6);
+        let day = record::written_number(rec, line, field, 6, 8);
         return is_real_day(year, month, day);
     }
     false

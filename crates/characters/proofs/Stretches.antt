@@ -8,12 +8,14 @@ use lib.Dec.{eqb, leb}
 use borrow.Author.Tests.{eqb-true}
 use Rattle.record.specs.declared.Field.{Field}
 use Rattle.record.specs.declared.codes.Code.{Code}
+use Rattle.record.specs.declared.Justification.the-variants.{Fixed}
 use Rattle.record.specs.Choice.{_and_, _or_, choose}
-use Rattle.record.specs.Value.{held}
+use Rattle.record.specs.Fields.{fixed}
+use Rattle.record.specs.Value.{written}
 use Rattle.record.specs.Tests.{every, valid}
 use Rattle.record.specs.Codes.{codeOf}
 use Rattle.record.specs.Layout.{Row, layout, Record as Kind}
-use Rattle.record.proofs.Held.{held-beside}
+use Rattle.record.proofs.Held.{written-beside}
 use Rattle.nesting.specs.Division.{Record}
 use Rattle.characters.specs.Characters.{rowsOf, cleanIn, clean}
 
@@ -21,7 +23,7 @@ use Rattle.characters.specs.Characters.{rowsOf, cleanIn, clean}
 glued : Field → List Field → List Field
 glued f [] = f ∷ []
 glued f (g ∷ gs) =
-    choose (eqb (f .start - 1 + f .width) (g .start - 1)) (record { start = f .start; width = f .width + g .width } ∷ gs) (f ∷ g ∷ gs)
+    choose (eqb (f .start - 1 + f .width) (g .start - 1)) (record { start = f .start; width = f .width + g .width; justification = Fixed } ∷ gs) (f ∷ g ∷ gs)
 
 -- the stretches of a table's fields that are no fillers
 stretches : List Row → List Field
@@ -31,7 +33,7 @@ stretches (row ∷ rows) = choose (row .unused) (stretches rows) (glued (row .po
 -- no byte of a stretch is below hex 40
 unfoldable pub allValid : Record → List Field → Bool
 allValid r [] = true
-allValid r (f ∷ fs) = valid (held r f) and allValid r fs
+allValid r (f ∷ fs) = valid (written r f) and allValid r fs
 
 and-assoc : (a b c : Bool) → ((a and b) and c) ≡ (a and (b and c))
 unfolding _and_
@@ -44,17 +46,17 @@ every-append q [] ys = refl
 every-append q (x ∷ xs) ys = rw (every-append q xs ys) (sym (and-assoc (q x) (every q xs) (every q ys)))
 
 valid-glued : (r : Record) (f g : Field) → f .start - 1 + f .width ≡ g .start - 1
-    → valid (held r (record { start = f .start; width = f .width + g .width })) ≡ (valid (held r f) and valid (held r g))
+    → valid (written r (record { start = f .start; width = f .width + g .width; justification = Fixed })) ≡ (valid (written r f) and valid (written r g))
 unfolding valid
-valid-glued r f g e = rw (held-beside r f g e) (every-append (λ (x : ℕ). leb 0x40 x) (held r f) (held r g))
+valid-glued r f g e = rw (written-beside r f g e) (every-append (λ (x : ℕ). leb 0x40 x) (written r f) (written r g))
 
-all-glued : (r : Record) (f : Field) (gs : List Field) → allValid r (glued f gs) ≡ (valid (held r f) and allValid r gs)
+all-glued : (r : Record) (f : Field) (gs : List Field) → allValid r (glued f gs) ≡ (valid (written r f) and allValid r gs)
 unfolding glued allValid choose
 all-glued r f [] = refl
 all-glued r f (g ∷ gs) = go (eqb (f .start - 1 + f .width) (g .start - 1)) refl
   where
-    go : (t : Bool) → eqb (f .start - 1 + f .width) (g .start - 1) ≡ t → allValid r (glued f (g ∷ gs)) ≡ (valid (held r f) and allValid r (g ∷ gs))
-    go true e = rw (e, valid-glued r f g (eqb-true _ _ e)) (and-assoc (valid (held r f)) (valid (held r g)) (allValid r gs))
+    go : (t : Bool) → eqb (f .start - 1 + f .width) (g .start - 1) ≡ t → allValid r (glued f (g ∷ gs)) ≡ (valid (written r f) and allValid r (g ∷ gs))
+    go true e = rw (e, valid-glued r f g (eqb-true _ _ e)) (and-assoc (valid (written r f)) (valid (written r g)) (allValid r gs))
     go false e = rw e
 
 row-covered : (r : Record) (row : Row) (rows : List Row) → allValid r (stretches rows) ≡ cleanIn r rows
@@ -71,7 +73,7 @@ covered r (row ∷ rows) = row-covered r row rows (covered r rows) (row .unused)
 
 -- a stretch by its first position and its width
 abbrev stretch : ℕ → ℕ → Field
-stretch s w = record { start = s; width = w }
+stretch s w = fixed s w
 
 -- the stretches of each record, between the fillers of 01 Bytes: what the code has constants for
 unfoldable pub stretchesOf : Kind → List Field

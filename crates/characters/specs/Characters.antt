@@ -5,7 +5,7 @@ use mathlib.Core.List.{List, [], _∷_}
 use Rattle.record.specs.declared.codes.Code.{Code}
 use Rattle.record.specs.declared.codes.Code.the-variants.{FileHeader, Batch, Detail, Party, Account, Procurement, BatchTrailer, FileTrailer, Unknown}
 use Rattle.record.specs.Choice.{_and_, _or_, choose}
-use Rattle.record.specs.Value.{held}
+use Rattle.record.specs.Value.{written}
 use Rattle.record.specs.Tests.{valid}
 use Rattle.record.specs.Codes.{codeOf}
 use Rattle.record.specs.Layout.{Row, layout, Record as Kind}
@@ -23,10 +23,10 @@ rowsOf BatchTrailer = layout Kind.BatchTrailer
 rowsOf FileTrailer = layout Kind.FileTrailer
 rowsOf Unknown = []
 
--- every row is a filler, which is never looked at, or holds only bytes 40-FF (01 Bytes)
+-- every row is a filler, which is never looked at, or has only bytes 40-FF, as it stands (01 Bytes)
 unfoldable pub cleanIn : Record → List Row → Bool
 cleanIn r [] = true
-cleanIn r (row ∷ rows) = (row .unused or valid (held r (row .position))) and cleanIn r rows
+cleanIn r (row ∷ rows) = (row .unused or valid (written r (row .position))) and cleanIn r rows
 
 -- no byte below hex 40 outside fillers (01 File answers, 7)
 unfoldable pub clean : Record → Bool

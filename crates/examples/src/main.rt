@@ -19,7 +19,7 @@ ghost use Rattle.report.specs.Rows.{roomFor};
 ghost use Rattle.examples.specs.Sized.{Sized};
 
 // The most bytes of the table.
-const TABLE: usize = 262144;
+const TABLE: usize = 393216;
 
 // The bytes of the report space; the judge is lent the first of them.
 const REPORT: usize = 1024;

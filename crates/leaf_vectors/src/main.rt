@@ -1,6 +1,7 @@
 // Shows what the leaves say of records that another program encoded: a line for each record on standard input. A record that begins with FH
 // in ASCII is ASCII.
 use record::Field;
+use record::Justification;
 use record::Line;
 use record::Order;
 use record::codes::Code;
@@ -60,12 +61,13 @@ fn show_bytes(rec: &[u8; 850], line: Line) {
     show(code_number(record::codes::code_of(record::codes::code_bytes(rec, line))));
     show_bool(record::codes::has_detail(rec, line));
     show_bool(record::codes::has_header(rec, line));
-    show_bool(record::field_valid(
+    show_bool(record::written_valid(
         rec,
         line,
         Field {
             start: 1,
             width: 56,
+            justification: Justification::Fixed,
         },
     ));
 }
@@ -83,32 +85,72 @@ fn show_values(rec: &[u8; 850], line: Line) {
     let amount = money::field_amount(rec, line, layout::SUMMARY_TOTAL_AMOUNT);
     show(amount.high);
     show(amount.low);
-    show_order(record::fields_order(
+    let mut original = [0u8; 14];
+    record::copy_field(rec, line, layout::ORIGINAL_SCHEDULE_NUMBER, &mut original);
+    show_order(record::field_order(rec, line, layout::SCHEDULE_NUMBER, &original));
+}
+
+fn show_byte(byte: u8) {
+    show(byte as u64);
+}
+
+// The numbers of these bytes.
+fn show_each(bytes: &[u8]) {
+    let mut i: usize = 0;
+    while i < bytes.len() {
+        show_byte(bytes[i]);
+        i += 1;
+    }
+}
+
+// What text holds, field 7 and a number: the schedule number, the summary number and the first serial number.
+fn show_held(rec: &[u8; 850], line: Line) {
+    let mut schedule_number = [0u8; 14];
+    record::copy_field(rec, line, layout::SCHEDULE_NUMBER, &mut schedule_number);
+    show_each(&schedule_number);
+    let mut summary_number = [0u8; 6];
+    record::copy_field(rec, line, layout::SUMMARY_NUMBER, &mut summary_number);
+    show_each(&summary_number);
+    let mut serial_number = [0u8; 8];
+    record::copy_field(
         rec,
         line,
-        layout::SCHEDULE_NUMBER,
-        rec,
-        line,
-        layout::ORIGINAL_SCHEDULE_NUMBER,
-    ));
+        layout::CHECK_FIRST_SERIAL_NUMBER,
+        &mut serial_number,
+    );
+    show_each(&serial_number);
+}
+
+// Whether field 7 has no blank inside, and whether the first serial number is blank, and whether zeros.
+fn show_tests(rec: &[u8; 850], line: Line) {
+    show_bool(record::field_solid(rec, line, layout::SUMMARY_NUMBER));
+    show_bool(record::field_blank(rec, line, layout::CHECK_FIRST_SERIAL_NUMBER));
+    show_bool(record::field_zeros(rec, line, layout::CHECK_FIRST_SERIAL_NUMBER));
+}
+
+// The first serial number, or what is above them all where it is not digits.
+fn show_number(rec: &[u8; 850], line: Line) {
+    if record::field_digits(rec, line, layout::CHECK_FIRST_SERIAL_NUMBER) {
+        show(record::field_number(rec, line, layout::CHECK_FIRST_SERIAL_NUMBER));
+    } else {
+        show(100000000);
+    }
 }
 
 // What each byte of positions 3 to 258 is seen as.
 fn show_page(rec: &[u8; 850], line: Line) {
-    let mut i: usize = 0;
-    while i < 256 {
-        let byte = record::part_byte(
-            rec,
-            line,
-            Field {
-                start: 3,
-                width: 256,
-            },
-            i,
-        );
-        show(byte as u64);
-        i += 1;
-    }
+    let mut page = [0u8; 256];
+    record::copy_field(
+        rec,
+        line,
+        Field {
+            start: 3,
+            width: 256,
+            justification: Justification::Fixed,
+        },
+        &mut page,
+    );
+    show_each(&page);
 }
 
 // Reads and shows one record, and answers whether there was one.
@@ -123,6 +165,9 @@ fn show_next() -> bool {
     show_bytes(&rec, line);
     show_dates(&rec, line);
     show_values(&rec, line);
+    show_held(&rec, line);
+    show_tests(&rec, line);
+    show_number(&rec, line);
     if ascii {
         show_page(&rec, line);
     }

@@ -1,23 +1,23 @@
 -- Amounts: what two words are worth, carries, comparison, and the amount that twenty digits write.
 -- Assumes nothing.
 use mathlib.Core.Path.{_≡_, refl, sym, ap, _∙_}
-use mathlib.Core.Bool.{Bool, true, false}
+use mathlib.Core.Bool.{Bool, true, false, not}
 use mathlib.Core.List.{List}
 use Prim.Native.Nat.{ℕ, _+_, _-_, _*_, _≤_, _<_}
 use native.Mathlib.Nat.{pow-le-pow-right, lt-of-lt-of-le}
 use native.Mathlib.Omega.{arith}
 use lib.Dec.{eqb, ltb}
-use borrow.Author.Tests.{eq-eqb, ne-eqb, eqb-true, eqb-false, lt-ltb, le-ltb, ltb-true, ltb-false}
+use borrow.Author.Tests.{not-false, eq-eqb, ne-eqb, eqb-true, eqb-false, lt-ltb, le-ltb, ltb-true, ltb-false}
 use lib.ListN.{length, take, drop, length-drop, take-append-drop}
 use lib.Seq.{slice, take-all}
 use Rattle.record.specs.declared.Field.{Field}
 use Rattle.record.specs.Choice.{choose}
 use Rattle.page.specs.CodePage.{shown}
-use Rattle.record.specs.Value.{Has, held}
+use Rattle.record.specs.Value.{Has, written, held}
 use Rattle.record.specs.Tests.{digits}
 use Rattle.record.specs.Numeral.{numeral}
-use Rattle.record.proofs.Held.{held-length}
-use Rattle.record.proofs.Every.{digits-part}
+use Rattle.record.proofs.Held.{written-length, held-length, held-digits}
+use Rattle.record.proofs.Every.{digits-part, digits-halves}
 use Rattle.record.proofs.Numbers.{numeral-append, numeral-below}
 use Rattle.money.specs.declared.Amount.{Amount}
 use Rattle.money.specs.declared.Signed.{Signed}
@@ -91,37 +91,46 @@ module _ (a b : Amount) (u : Whole a) (v : Whole b) where
       go true e = e ∙ sym (lt-ltb (worth b) (worth a) (omega (arith, u, v, ltb-true (b .high) (a .high) e)))
       go false e = e ∙ sym (le-ltb (worth b) (worth a) (omega (arith, u, v, h, ltb-false (b .high) (a .high) e)))
 
--- a field of twenty digits, read as two numbers of ten
-module _ (ascii : Bool) (rec : List ℕ) (f : Field) (p : Has rec f) (w : f .width ≡ 20) (r : Bool) (e : r ≡ digits (slice 0 20 (held (shown ascii rec) f))) where
-  twenty : length (held (shown ascii rec) f) ≡ 20
-  twenty = held-length ascii rec f p ∙ w
+-- twenty digits, read as two numbers of ten
+halves : (xs : List ℕ) → length xs ≡ 20 → digits xs ≡ true
+    → (numeral xs ≡ numeral (slice 0 10 xs) * 10000000000 + numeral (slice 10 20 xs)) × (numeral (slice 10 20 xs) < 10000000000)
+halves xs n d =
+    let t : take 20 xs ≡ xs = take-all 20 xs (omega arith) in
+    let k : length (drop 10 xs) ≡ 10 = simp length-drop (omega arith) in
+    let a = numeral-append (take 10 xs) (drop 10 xs) in
+    let l = numeral-below (slice 10 20 xs) (digits-part 10 20 xs true (sym d) refl) in
+    rw t (omega (arith, rw (take-append-drop, k) at a, rw (t, k) at l))
 
-  all-digits : r ≡ digits (held (shown ascii rec) f)
-  all-digits = e ∙ ap digits (take-all 20 (held (shown ascii rec) f) (omega (arith, twenty)))
+amount-of : (xs : List ℕ) (h l : ℕ) → length xs ≡ 20 → digits xs ≡ true → h ≡ numeral (slice 0 10 xs) → l ≡ numeral (slice 10 20 xs) → record { high = h; low = l } ≡ split (cents xs)
+unfolding cents split choose
+amount-of xs h l n d a b =
+    let s = halves xs n d in
+    rw d (amount-equal _ _ (omega (arith, a, b, s)) (omega (arith, a, b, s)))
 
-  halves : (xs : List ℕ) → length xs ≡ 20 → digits xs ≡ true
-      → (numeral xs ≡ numeral (slice 0 10 xs) * 10000000000 + numeral (slice 10 20 xs)) × (numeral (slice 10 20 xs) < 10000000000)
-  halves xs n d =
-      let t : take 20 xs ≡ xs = take-all 20 xs (omega arith) in
-      let k : length (drop 10 xs) ≡ 10 = simp length-drop (omega arith) in
-      let a = numeral-append (take 10 xs) (drop 10 xs) in
-      let l = numeral-below (slice 10 20 xs) (digits-part 10 20 xs true (sym d) refl) in
-      rw t (omega (arith, rw (take-append-drop, k) at a, rw (t, k) at l))
+-- a field of twenty digits, as it holds them
+module _ (ascii : Bool) (rec : List ℕ) (f : Field) (p : Has rec f) (w : f .width ≡ 20) where
+  module _ (r : Bool) (e : r ≡ digits (held (shown ascii rec) f)) where
+    pub amount-read : (h l : ℕ) → r ≡ true → h ≡ numeral (slice 0 10 (held (shown ascii rec) f)) → l ≡ numeral (slice 10 20 (held (shown ascii rec) f))
+        → record { high = h; low = l } ≡ split (cents (held (shown ascii rec) f))
+    amount-read h l t a b = amount-of (held (shown ascii rec) f) h l (held-length ascii rec f p ∙ w) (sym e ∙ t) a b
 
-  pub half-digits : (from to : ℕ) → r ≡ true → digits (slice from to (held (shown ascii rec) f)) ≡ true
-  half-digits from to t = digits-part from to (held (shown ascii rec) f) r all-digits t
+    pub amount-none : r ≡ false → record { high = 0; low = 0 } ≡ split (cents (held (shown ascii rec) f))
+    unfolding cents split choose
+    amount-none t = rw (sym e ∙ t)
 
-  pub amount-read : (h l : ℕ) → r ≡ true → h ≡ numeral (slice 0 10 (held (shown ascii rec) f)) → l ≡ numeral (slice 10 20 (held (shown ascii rec) f))
-      → record { high = h; low = l } ≡ split (cents (held (shown ascii rec) f))
-  unfolding cents split choose
-  amount-read h l t a b =
-      let d : digits (held (shown ascii rec) f) ≡ true = sym all-digits ∙ t in
-      let s = halves (held (shown ascii rec) f) twenty d in
-      rw d (amount-equal _ _ (omega (arith, a, b, s)) (omega (arith, a, b, s)))
+  -- and as it stands: both halves are digits
+  module _ (r s : Bool) (u : r ≡ digits (slice 0 10 (written (shown ascii rec) f))) (v : s ≡ digits (slice 10 20 (written (shown ascii rec) f))) (q : not r ≡ false) (t : not s ≡ false) where
+    twenty : length (written (shown ascii rec) f) ≡ 20
+    twenty = written-length ascii rec f p ∙ w
 
-  pub amount-none : r ≡ false → record { high = 0; low = 0 } ≡ split (cents (held (shown ascii rec) f))
-  unfolding cents split choose
-  amount-none t = rw (sym all-digits ∙ t)
+    all-digits : digits (written (shown ascii rec) f) ≡ true
+    all-digits =
+        let n : take 20 (written (shown ascii rec) f) ≡ written (shown ascii rec) f = take-all 20 (written (shown ascii rec) f) (omega (arith, twenty)) in
+        digits-halves (written (shown ascii rec) f) (sym u ∙ not-false r q) (ap (λ (xs : List ℕ). digits (drop 10 xs)) (sym n) ∙ sym v ∙ not-false s t)
+
+    pub amount-stands : (h l : ℕ) → h ≡ numeral (slice 0 10 (written (shown ascii rec) f)) → l ≡ numeral (slice 10 20 (written (shown ascii rec) f))
+        → record { high = h; low = l } ≡ split (cents (held (shown ascii rec) f))
+    amount-stands h l a b = amount-of (written (shown ascii rec) f) h l twenty all-digits a b ∙ ap (λ (xs : List ℕ). split (cents xs)) (sym (held-digits (shown ascii rec) f all-digits))
 
 -- cents of a field of twenty bytes have twenty digits
 pub cents-below : (xs : List ℕ) → length xs ≤ 20 → cents xs < 100000000000000000000

@@ -19,17 +19,55 @@ pub struct Signed {
     pub negative: Amount,
 }
 
-// The amount in a field of twenty digits; zero where it is not twenty digits. The width is written out so that the loops are unrolled.
-pub fn field_amount(rec: &[u8], line: Line, field: Field) -> Amount
+// The amount in a field of twenty digits once they are moved; zero where it is not twenty digits.
+fn moved_amount(rec: &[u8], line: Line, field: Field) -> Amount
     requires { ⌜ Has (now rec) field × (field .width ≡ 20) ⌝ }
     ensures { λ r. ⌜ r ≡ split (cents (held (seen line (now (rec .entry))) field)) ⌝ }
 {
-    if record::part_digits(rec, line, field, 0, 20) {
+    if record::field_digits(rec, line, field) {
         let high = record::part_number(rec, line, field, 0, 10);
         let low = record::part_number(rec, line, field, 10, 20);
         return Amount { high, low };
     }
     Amount { high: 0, low: 0 }
+}
+
+// The amount in a field of twenty digits; zero where it is not twenty digits. The width is written out so that the loops are unrolled. What has to
+// be moved is lent anew, and at two places, so that it is a function of its own and nothing of it is kept on the stack where nothing is moved.
+pub fn field_amount(rec: &[u8], line: Line, field: Field) -> Amount
+    requires { ⌜ Has (now rec) field × (field .width ≡ 20) ⌝ }
+    ensures { λ r. ⌜ r ≡ split (cents (held (seen line (now (rec .entry))) field)) ⌝ }
+{
+    let number = line.number;
+    let ascii = line.ascii;
+    let start = field.start;
+    let width = field.width;
+    let justification = field.justification;
+    if !record::written_digits(rec, line, field, 0, 10) {
+        return moved_amount(
+            &rec[..],
+            Line { number, ascii },
+            Field {
+                start,
+                width,
+                justification,
+            },
+        );
+    }
+    if !record::written_digits(rec, line, field, 10, 20) {
+        return moved_amount(
+            &rec[..],
+            Line { number, ascii },
+            Field {
+                start,
+                width,
+                justification,
+            },
+        );
+    }
+    let high = record::written_number(rec, line, field, 0, 10);
+    let low = record::written_number(rec, line, field, 10, 20);
+    Amount { high, low }
 }
 
 // The exact sum of two amounts.

@@ -10,7 +10,8 @@ use Rattle.record.specs.declared.codes.Letter.the-variants.{N, W}
 use Rattle.record.specs.declared.codes.Code.{Code}
 use Rattle.record.specs.declared.codes.Code.the-variants.{FileHeader, Batch, Detail, Party, BatchTrailer, FileTrailer}
 use Rattle.record.specs.Choice.{_and_, _or_, choose}
-use Rattle.record.specs.Value.{held}
+use Rattle.record.specs.Correction.{fromFirst, movedLeft, corrected}
+use Rattle.record.specs.Value.{written, held}
 use Rattle.record.specs.Tests.{alike}
 use Rattle.record.specs.Codes.{letterByte, codeBytes, codeIn, codeOf}
 use Rattle.record.proofs.Chain.{and-left, and-right}
@@ -64,7 +65,7 @@ record Worked (e : Example) : Type 0 where
   answer : readOn start 0 (sample (e .codes)) ≡ e .answer
 
 worked : All Worked examples
-unfolding examples sample allKnown made held alike letterByte codeBytes codeIn codeOf choose _and_ _or_ placeNumber isAt sameLetter isCheck besides complete owns opensBatch opensPayment takesParty takesAccount takesProcurement fits start moved inBatch inPayment taken next follows after readOn
+unfolding examples sample allKnown made fromFirst movedLeft corrected written held alike letterByte codeBytes codeIn codeOf choose _and_ _or_ placeNumber isAt sameLetter isCheck besides complete owns opensBatch opensPayment takesParty takesAccount takesProcurement fits start moved inBatch inPayment taken next follows after readOn
 worked = (
   record { codes = refl; answer = refl },
   (

@@ -9,6 +9,7 @@ mod Live
 pub mod Answer
 pub mod OneDivision
 pub mod Theorems
+pub mod Moved
 pub mod Parts
 pub mod Examples
 mod Arms

@@ -1,13 +1,19 @@
 -- Whole records: the bytes of what they hold, and a record made with a code and a Payment ID.
 -- Assumes nothing.
-use mathlib.Core.Path.{_≡_}
+use mathlib.Core.Path.{_≡_, refl, ap, _∙_}
+use mathlib.Core.Bool.{Bool, true, false}
 use mathlib.Core.List.{List, [], _∷_, _++_}
-use Prim.Native.Nat.{ℕ, zero, suc, _<_}
+use Prim.Native.Nat.{ℕ, zero, suc, _-_, _<_}
 use native.Mathlib.Omega.{arith}
+use lib.Dec.{eqb}
 use lib.ListN.{length, take, drop, replicate, length-append, length-replicate, length-take, length-drop}
 use lib.Seq.{take-at, drop-at}
 use Rattle.record.specs.Fields.{paymentId}
-use Rattle.record.specs.Value.{held}
+use Rattle.record.specs.declared.Justification.the-variants.{Text}
+use Rattle.record.specs.Choice.{choose}
+use Rattle.record.specs.Correction.{fromFirst, movedLeft, corrected}
+use Rattle.record.specs.Value.{written, held}
+use Rattle.record.proofs.Corrected.{corrected-length, corrected-twice}
 use Rattle.nesting.specs.Division.{Record, All, Coded, Whole}
 
 -- of the members of a beginning, of an end, of two lists, of equal ones
@@ -32,14 +38,31 @@ all-replicate Q (suc n) x h = (h, all-replicate Q n x h)
 abbrev pub Bytes : List ℕ → Type 0
 Bytes xs = All (λ b. b < 256) xs
 
--- a whole record's Payment ID is twenty bytes
+-- of text that is moved left
+all-first : (Q : ℕ → Type 0) (xs : List ℕ) → All Q xs → All Q (fromFirst xs)
+unfolding fromFirst choose
+all-first Q [] h = tt
+all-first Q (x ∷ xs) h = go (eqb x 0x40) (all-first Q xs (h .1))
+  where
+    go : (t : Bool) → All Q (fromFirst xs) → All Q (choose t (fromFirst xs) (x ∷ xs))
+    go true k = k
+    go false k = h
+
+-- a whole record's Payment ID is twenty bytes, and is moved left already
 pub id-size : (r : Record) → Whole r → length (held r paymentId) ≡ 20
-unfolding held
-id-size r w = simp (length-take, length-drop) (omega (arith, w .size))
+unfolding held written
+id-size r w = corrected-length Text (take 20 (drop 2 r)) ∙ simp (length-take, length-drop) (omega (arith, w .size))
 
 pub id-bytes : (r : Record) → Whole r → Bytes (held r paymentId)
+unfolding held written corrected movedLeft
+id-bytes r w =
+    let xs = take 20 (drop 2 r) in
+    all-append (λ b. b < 256) (fromFirst xs) (replicate (length xs - length (fromFirst xs)) 0x40) (all-first (λ b. b < 256) xs (all-take (λ b. b < 256) 20 (drop 2 r) (all-drop (λ b. b < 256) 2 r (w .bytes))))
+    (all-replicate (λ b. b < 256) (length xs - length (fromFirst xs)) 0x40 (omega arith))
+
+pub id-moved : (r : Record) → corrected Text (held r paymentId) ≡ held r paymentId
 unfolding held
-id-bytes r w = all-take (λ b. b < 256) 20 (drop 2 r) (all-drop (λ b. b < 256) 2 r (w .bytes))
+id-moved r = corrected-twice Text (written r paymentId)
 
 -- the record of a code and an ID, blank after them
 unfoldable pub made : List ℕ → List ℕ → Record
@@ -47,12 +70,13 @@ made code id = code ++ (id ++ replicate 828 0x40)
 
 module _ (code id : List ℕ) (m : length code ≡ 2) (n : length id ≡ 20) where
   pub made-code : Coded code (made code id)
-  unfolding held made
+  unfolding held written corrected made
   made-code = take-at code (id ++ replicate 828 0x40) 2 m
 
-  pub made-id : held (made code id) paymentId ≡ id
-  unfolding held made
-  made-id = rw (drop-at code (id ++ replicate 828 0x40) 2 m) (take-at id (replicate 828 0x40) 20 n)
+  pub made-id : corrected Text id ≡ id → held (made code id) paymentId ≡ id
+  unfolding held written made
+  made-id e =
+      ap (λ (xs : List ℕ). corrected Text (take 20 xs)) (drop-at code (id ++ replicate 828 0x40) 2 m) ∙ ap (corrected Text) (take-at id (replicate 828 0x40) 20 n) ∙ e
 
   pub made-whole : Bytes code → Bytes id → Whole (made code id)
   unfolding made

@@ -10,9 +10,16 @@ use lib.Dec.{eqb, leb, ltb}
 use borrow.Author.Tests.{lt-leb, le-leb, lt-ltb, le-ltb, eq-eqb, ne-eqb, eqb-true, eqb-false}
 use lib.ListN.{length, drop, getD, replicate, drop-of-length-le, length-append, length-replicate, List·getD-append, getD-replicate}
 use lib.Seq.{drop-cons, getD-append-add}
+use Rattle.page.specs.CodePage.{shown}
+use Rattle.record.specs.declared.Field.{Field}
+use Rattle.record.specs.declared.Justification.the-variants.{Fixed}
 use Rattle.record.specs.Choice.{_and_, _or_, choose}
-use Rattle.record.specs.Tests.{every, only, zeros, digit, digits, alike}
+use Rattle.record.specs.Tests.{every, only, blank, zeros, digit, digits, alike}
 use Rattle.record.specs.Numeral.{numeral, numeralFrom}
+use Rattle.record.specs.Routing.{routing}
+use Rattle.record.specs.Value.{Has, written, held}
+use Rattle.record.proofs.Held.{held-length, held-fixed}
+use Rattle.calendar.specs.Calendar.{dashedDate, plainDate}
 use Rattle.record.proofs.Chain.{and-left, and-right}
 use Rattle.record.proofs.Every.{digit-range}
 use Rattle.money.specs.declared.Amount.{Amount}
@@ -20,7 +27,9 @@ use Rattle.money.specs.Money.{worth, split, cents, Whole}
 use Rattle.money.proofs.Amounts.{worth-split}
 use Rattle.reasons.specs.declared.Finding.{Finding}
 use Rattle.reasons.specs.Findings.{noted}
-use Rattle.reasons.specs.Lists.{oneOf}
+use Rattle.reasons.specs.declared.lists.Listed.{Listed}
+use Rattle.reasons.specs.declared.lists.Listed.the-variants.{BusinessFunctions, EntryClasses, TransactionCodes, PayerMechanisms}
+use Rattle.reasons.specs.Lists.{oneOf, businessFunctions, entryClasses, transactionCodes, payerMechanisms, valuesOf}
 use Rattle.reasons.specs.Reasons.{symbolAndSerial}
 
 -- a value in a list of values
@@ -44,7 +53,48 @@ pub one-rest : (x : List ℕ) (xs : List (List ℕ)) (v : List ℕ) (r : Bool) �
 unfolding oneOf _or_
 one-rest x xs v r e h = rw e h
 
+-- one of a list that is told by its name
+module _ (l : Listed) (v : List ℕ) (r : Bool) where
+  pub business-functions : l ≡ BusinessFunctions → r ≡ oneOf businessFunctions v → r ≡ oneOf (valuesOf l) v
+  unfolding valuesOf
+  business-functions o e = rw o e
+
+  pub entry-classes : l ≡ EntryClasses → r ≡ oneOf entryClasses v → r ≡ oneOf (valuesOf l) v
+  unfolding valuesOf
+  entry-classes o e = rw o e
+
+  pub transaction-codes : l ≡ TransactionCodes → r ≡ oneOf transactionCodes v → r ≡ oneOf (valuesOf l) v
+  unfolding valuesOf
+  transaction-codes o e = rw o e
+
+  pub payer-mechanisms : l ≡ PayerMechanisms → r ≡ oneOf payerMechanisms v → r ≡ oneOf (valuesOf l) v
+  unfolding valuesOf
+  payer-mechanisms o e = rw o e
+
 pub ruleset ones = (one-here, one-later, one-none, one-empty)
+
+-- a date, as it stands
+module _ (rec : List ℕ) (f : Field) (j : f .justification ≡ Fixed) (r u : Bool) (t : r ≡ u) where
+  pub dashed-told : r ≡ dashedDate (written rec f) → dashedDate (held rec f) ≡ u
+  dashed-told e = ap dashedDate (held-fixed rec f j) ∙ sym e ∙ t
+
+  pub plain-told : r ≡ plainDate (written rec f) → plainDate (held rec f) ≡ u
+  plain-told e = ap plainDate (held-fixed rec f j) ∙ sym e ∙ t
+
+-- a routing number is digits, and not blank
+filled-digits : (xs : List ℕ) → 1 ≤ length xs → digits xs ≡ true → blank xs ≡ false
+unfolding digits only every _and_
+filled-digits [] h e = absurd (omega arith)
+filled-digits (x ∷ xs) h e = ap (λ (b : Bool). b and only 0x40 xs) (ne-eqb x 0x40 (λ q. absurd (omega (arith, q, digit-range x (and-left (digit x) (digits xs) e)))))
+
+module _ (ascii : Bool) (rec : List ℕ) (f : Field) (h : Has rec f) (w : 2 ≤ f .width) (r : Bool) (e : r ≡ routing (held (shown ascii rec) f)) where
+  pub routing-blank : r ≡ true → blank (held (shown ascii rec) f) ≡ false
+  unfolding routing
+  routing-blank t = filled-digits (held (shown ascii rec) f) (omega (arith, held-length ascii rec f h)) (and-left _ _ (sym e ∙ t))
+
+  pub routing-digits : r ≡ true → digits (held (shown ascii rec) f) ≡ true
+  unfolding routing
+  routing-digits t = and-left _ _ (sym e ∙ t)
 
 -- an amount beside another
 module _ (r u : Bool) (a : Amount) (n : ℕ) (e : a ≡ split n) (t : r ≡ u) where

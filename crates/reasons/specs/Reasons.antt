@@ -1,11 +1,11 @@
 -- The reasons that one field can draw (01 Batch reasons), the least first; 0 where it is sound.
 use Prim.Native.Nat.{ℕ}
-use mathlib.Core.Bool.{Bool, not}
+use mathlib.Core.Bool.{Bool}
 use mathlib.Core.List.{List, _++_}
 use lib.Dec.{eqb, leb, ltb}
 use lib.ListN.{replicate}
 use Rattle.record.specs.Choice.{_and_, choose}
-use Rattle.record.specs.Tests.{every, blank, zeros, digits, alike}
+use Rattle.record.specs.Tests.{blank, zeros, digits, alike, solid}
 use Rattle.record.specs.Numeral.{numeral}
 use Rattle.record.specs.Routing.{routing}
 use Rattle.money.specs.Money.{cents}
@@ -20,9 +20,9 @@ required v = choose (blank v) 1 0
 unfoldable pub number : List ℕ → ℕ
 number v = choose (blank v) 1 (choose (digits v) 0 2)
 
--- no blank byte (field 7)
+-- required, no blank byte (field 7)
 unfoldable pub unbroken : List ℕ → ℕ
-unbroken v = choose (blank v) 1 (choose (every (λ (x : ℕ). not (eqb x 0x40)) v) 0 2)
+unbroken v = choose (blank v) 1 (choose (solid v) 0 2)
 
 -- a date CCYY-MM-DD
 unfoldable pub dashedDay : List ℕ → ℕ

@@ -6,11 +6,9 @@ use crate::UNLISTED;
 use record::Field;
 use record::Line;
 ghost use mathlib.Core.Path.{_≡_};
-ghost use mathlib.Core.Bool.{not};
-ghost use Prim.Native.Nat.{ℕ, _≤_};
-ghost use lib.Dec.{eqb};
+ghost use Prim.Native.Nat.{_≤_};
 ghost use Rattle.record.specs.Value.{Has, seen, held};
-ghost use Rattle.record.specs.Tests.{every};
+ghost use Rattle.record.specs.declared.Justification.the-variants.{Fixed};
 ghost use Rattle.reasons.specs.Reasons.{required, number, ifNumber, unbroken, dashedDay, plainDay, monthAndYear, routingNumber, ifPostal};
 
 // Required.
@@ -52,23 +50,7 @@ pub fn if_number(rec: &[u8], line: Line, field: Field) -> usize
     SHAPE
 }
 
-// No byte of the field is blank.
-fn is_unbroken(rec: &[u8], line: Line, field: Field) -> bool
-    requires { ⌜ Has (now rec) field ⌝ }
-    ensures { λ r. ⌜ r ≡ every (λ (x : ℕ). not (eqb x 0x40)) (held (seen line (now (rec .entry))) field) ⌝ }
-{
-    let width = field.width;
-    let mut i: usize = 0;
-    while i < width {
-        if record::part_is(rec, line, field, i, 0x40, 0x20) {
-            return false;
-        }
-        i += 1;
-    }
-    true
-}
-
-// No blank byte (field 7).
+// Required, no blank byte (field 7).
 pub fn unbroken(rec: &[u8], line: Line, field: Field) -> usize
     requires { ⌜ Has (now rec) field ⌝ }
     ensures { λ r. ⌜ r ≡ unbroken (held (seen line (now (rec .entry))) field) ⌝ }
@@ -76,7 +58,7 @@ pub fn unbroken(rec: &[u8], line: Line, field: Field) -> usize
     if record::field_blank(rec, line, field) {
         return BLANK;
     }
-    if is_unbroken(rec, line, field) {
+    if record::field_solid(rec, line, field) {
         return 0;
     }
     SHAPE
@@ -84,7 +66,7 @@ pub fn unbroken(rec: &[u8], line: Line, field: Field) -> usize
 
 // A date CCYY-MM-DD.
 pub fn dashed_day(rec: &[u8], line: Line, field: Field) -> usize
-    requires { ⌜ Has (now rec) field × (field .width ≡ 10) ⌝ }
+    requires { ⌜ Has (now rec) field × (field .width ≡ 10) × (field .justification ≡ Fixed) ⌝ }
     ensures { λ r. ⌜ r ≡ dashedDay (held (seen line (now (rec .entry))) field) ⌝ }
 {
     if record::field_blank(rec, line, field) {
@@ -98,7 +80,7 @@ pub fn dashed_day(rec: &[u8], line: Line, field: Field) -> usize
 
 // A date YYYYMMDD.
 pub fn plain_day(rec: &[u8], line: Line, field: Field) -> usize
-    requires { ⌜ Has (now rec) field × (field .width ≡ 8) ⌝ }
+    requires { ⌜ Has (now rec) field × (field .width ≡ 8) × (field .justification ≡ Fixed) ⌝ }
     ensures { λ r. ⌜ r ≡ plainDay (held (seen line (now (rec .entry))) field) ⌝ }
 {
     if record::field_blank(rec, line, field) {
@@ -127,21 +109,21 @@ pub fn month_and_year(rec: &[u8], line: Line, field: Field) -> usize
     NO_DAY
 }
 
-// A routing number.
+// A routing number: what is right is asked for first, since it is what files have.
 pub fn routing_number(rec: &[u8], line: Line, field: Field) -> usize
     requires { ⌜ Has (now rec) field × (2 ≤ field .width) ⌝ }
     ensures { λ r. ⌜ r ≡ routingNumber (held (seen line (now (rec .entry))) field) ⌝ }
 {
-    if record::field_blank(rec, line, field) {
-        return BLANK;
-    }
-    if !record::field_digits(rec, line, field) {
-        return SHAPE;
-    }
     if record::routing::field_routing(rec, line, field) {
         return 0;
     }
-    UNLISTED
+    if record::field_blank(rec, line, field) {
+        return BLANK;
+    }
+    if record::field_digits(rec, line, field) {
+        return UNLISTED;
+    }
+    SHAPE
 }
 
 // If filled, digits; unfilled also when all zeros (field 36).

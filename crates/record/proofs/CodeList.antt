@@ -17,7 +17,8 @@ use Rattle.page.specs.CodePage.{shown}
 use Rattle.record.specs.Choice.{_and_, choose}
 use Rattle.record.specs.Tests.{alike}
 use Rattle.record.specs.Fields.{recordCode}
-use Rattle.record.specs.Value.{held}
+use Rattle.record.specs.Correction.{corrected}
+use Rattle.record.specs.Value.{written, held}
 use Rattle.record.specs.Codes.{codeIn, codeBytes, codeOf, letterByte, codes, isDetail, isHeader}
 use Rattle.record.proofs.Chain.{and-true}
 use Rattle.record.proofs.Same.{alike-equal}
@@ -41,13 +42,13 @@ second-alike (x ∷ y ∷ []) (t ∷ u ∷ v ∷ ts) r n m e h = absurd (omega a
 
 -- the two bytes with which a record begins, as they were sent and as they are seen
 pub code-sent : (ascii : Bool) (rec : List ℕ) (a b : ℕ) → 2 ≤ length rec → ascii ≡ false → a ≡ getD rec 0 0 → b ≡ getD rec 1 0 → a ∷ b ∷ [] ≡ held (shown ascii rec) recordCode
-unfolding held shown recordCode
+unfolding held written corrected shown
 code-sent ascii [] a b n z e f = absurd (omega arith)
 code-sent ascii (x ∷ []) a b n z e f = absurd (omega arith)
 code-sent ascii (x ∷ y ∷ rec) a b n z e f = rw (z, e, f)
 
 pub code-shown : (ascii : Bool) (rec bytes : List ℕ) (a b : ℕ) → 2 ≤ length rec → ascii ≡ true → a ≡ getD rec 0 0 → b ≡ getD rec 1 0 → bytes ≡ shown true (a ∷ b ∷ []) → bytes ≡ held (shown ascii rec) recordCode
-unfolding held shown recordCode
+unfolding held written corrected shown
 code-shown ascii [] bytes a b n z e f t = absurd (omega arith)
 code-shown ascii (x ∷ []) bytes a b n z e f t = absurd (omega arith)
 code-shown ascii (x ∷ y ∷ rec) bytes a b n z e f t = t ∙ rw (z, e, f)

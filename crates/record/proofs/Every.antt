@@ -2,14 +2,14 @@
 -- Assumes nothing.
 use mathlib.Core.Path.{_≡_, refl, sym, ap, _∙_}
 use mathlib.Core.Bool.{Bool, true, false}
-use mathlib.Core.List.{List, [], _∷_}
+use mathlib.Core.List.{List, [], _∷_, _++_}
 use Prim.Native.Nat.{ℕ, zero, suc, _+_, _≤_, _<_, min}
 use native.Mathlib.Numerals.{add-one}
 use native.Mathlib.Nat.{le-of-suc-le-suc, not-suc-le-zero}
 use native.Mathlib.Omega.{arith}
 use lib.Dec.{leb}
 use borrow.Author.Tests.{lt-leb, le-leb, leb-true, leb-false}
-use lib.ListN.{length, take, drop, getD, length-take, length-drop, drop-of-length-le}
+use lib.ListN.{length, take, drop, getD, length-take, length-drop, drop-of-length-le, take-append-drop}
 use lib.Seq.{drop-cons, getD-drop, getD-take, slice, slice-cons, slice-empty, take-all}
 use Rattle.record.specs.declared.place.Place.{Place}
 use Rattle.record.specs.Choice.{_and_}
@@ -93,6 +93,11 @@ every-drop q zero xs e = e
 every-drop q (suc n) [] e = e
 every-drop q (suc n) (x ∷ xs) e = every-drop q n xs (and-right (q x) (every q xs) e)
 
+every-both : (q : ℕ → Bool) (xs ys : List ℕ) → every q xs ≡ true → every q ys ≡ true → every q (xs ++ ys) ≡ true
+unfolding every _and_
+every-both q [] ys e h = h
+every-both q (x ∷ xs) ys e h = rw (and-left (q x) (every q xs) e) (every-both q xs ys (and-right (q x) (every q xs) e) h)
+
 -- a test that holds of every byte holds of every byte of a part
 pub every-slice : (q : ℕ → Bool) (from to : ℕ) (xs : List ℕ) → every q xs ≡ true → every q (slice from to xs) ≡ true
 every-slice q from to xs e = every-drop q from (take to xs) (every-take q to xs e)
@@ -100,6 +105,11 @@ every-slice q from to xs e = every-drop q from (take to xs) (every-take q to xs 
 pub digits-part : (from to : ℕ) (xs : List ℕ) (r : Bool) → r ≡ digits xs → r ≡ true → digits (slice from to xs) ≡ true
 unfolding digits
 digits-part from to xs r e h = every-slice digit from to xs (sym e ∙ h)
+
+-- two parts that are digits
+pub digits-halves : (xs : List ℕ) → digits (take 10 xs) ≡ true → digits (drop 10 xs) ≡ true → digits xs ≡ true
+unfolding digits
+digits-halves xs e h = ap (every digit) (sym (take-append-drop 10 xs)) ∙ every-both digit (take 10 xs) (drop 10 xs) e h
 
 pub digit-low : (x : ℕ) → x < 0xF0 → digit x ≡ false
 unfolding digit _and_

@@ -9,13 +9,10 @@ use native.Mathlib.Omega.{arith}
 use borrow.Author.Tests.{lt-ltb, le-ltb}
 use lib.ListN.{length, drop, getD, drop-of-length-le}
 use lib.Seq.{drop-cons}
-use Rattle.record.specs.declared.place.Place.{Place}
 use Rattle.record.specs.declared.Order.{Order}
 use Rattle.record.specs.declared.Order.the-variants.{Before, Same, After}
 use Rattle.record.specs.Choice.{choose}
-use Rattle.record.specs.Place.{Within, value}
 use Rattle.record.specs.Ordering.{order, isBefore}
-use Rattle.record.proofs.Every.{value-length}
 
 -- by the first byte
 pub before : (x y : ℕ) (xs ys : List ℕ) → x < y → order (x ∷ xs) (y ∷ ys) ≡ Before
@@ -137,56 +134,56 @@ pub level-none : (xs ys : List ℕ) → Level xs ys 0
 unfolding Level
 level-none xs ys = refl
 
--- two values at places, of which i bytes of the s that both have are level
-module _ (rec : List ℕ) (p : Place) (other : List ℕ) (q : Place) (i s : ℕ) (w : Within rec p) (v : Within other q) (e : s ≡ min (p .width) (q .width)) where
+-- two lists of lengths n and m, of which i bytes of the s that both have are level
+module _ (xs ys : List ℕ) (i s n m : ℕ) (lx : length xs ≡ n) (ly : length ys ≡ m) (e : s ≡ min n m) where
   -- x and y were read at i
-  module _ (x y : ℕ) (h : i < s) (ex : x ≡ getD (value rec p) i 0) (ey : y ≡ getD (value other q) i 0) where
-    nx : i < length (value rec p)
-    nx = omega (arith, value-length rec p w)
+  module _ (x y : ℕ) (h : i < s) (ex : x ≡ getD xs i 0) (ey : y ≡ getD ys i 0) where
+    nx : i < length xs
+    nx = omega arith
 
-    ny : i < length (value other q)
-    ny = omega (arith, value-length other q v)
+    ny : i < length ys
+    ny = omega arith
 
-    pub level-before : x < y → Level (value rec p) (value other q) i → Before ≡ order (value rec p) (value other q)
+    pub level-before : x < y → Level xs ys i → Before ≡ order xs ys
     unfolding Level
     level-before k l =
-        let m = nx in
-        let n = ny in
-        sym (l ∙ rw (drop-cons (value rec p) i 0, drop-cons (value other q) i 0) (before _ _ _ _ (omega arith)))
+        let p = nx in
+        let q = ny in
+        sym (l ∙ rw (drop-cons xs i 0, drop-cons ys i 0) (before _ _ _ _ (omega arith)))
 
-    pub level-after : y < x → Level (value rec p) (value other q) i → After ≡ order (value rec p) (value other q)
+    pub level-after : y < x → Level xs ys i → After ≡ order xs ys
     unfolding Level
     level-after k l =
-        let m = nx in
-        let n = ny in
-        sym (l ∙ rw (drop-cons (value rec p) i 0, drop-cons (value other q) i 0) (after _ _ _ _ (omega arith)))
+        let p = nx in
+        let q = ny in
+        sym (l ∙ rw (drop-cons xs i 0, drop-cons ys i 0) (after _ _ _ _ (omega arith)))
 
-    pub level-next : x ≤ y → y ≤ x → Level (value rec p) (value other q) i → Level (value rec p) (value other q) (i + 1)
+    pub level-next : x ≤ y → y ≤ x → Level xs ys i → Level xs ys (i + 1)
     unfolding Level
     level-next k j l =
-        let m = nx in
-        let n = ny in
-        l ∙ rw (add-one, drop-cons (value rec p) i 0, drop-cons (value other q) i 0) (level _ _ _ _ (omega arith) (omega arith))
+        let p = nx in
+        let q = ny in
+        l ∙ rw (add-one, drop-cons xs i 0, drop-cons ys i 0) (level _ _ _ _ (omega arith) (omega arith))
 
   -- where one of them ends
-  module _ (a : i ≤ s) (b : s ≤ i) (l : Level (value rec p) (value other q) i) where
-    pub end-before : p .width < q .width → Before ≡ order (value rec p) (value other q)
+  module _ (a : i ≤ s) (b : s ≤ i) (l : Level xs ys i) where
+    pub end-before : n < m → Before ≡ order xs ys
     unfolding Level order
     end-before h =
-        let m : length (value rec p) ≤ i = omega (arith, value-length rec p w) in
-        let n : i < length (value other q) = omega (arith, value-length other q v) in
-        sym (l ∙ rw (drop-of-length-le (value rec p), drop-cons (value other q) i 0))
+        let p : length xs ≤ i = omega arith in
+        let q : i < length ys = omega arith in
+        sym (l ∙ rw (drop-of-length-le xs, drop-cons ys i 0))
 
-    pub end-after : q .width < p .width → After ≡ order (value rec p) (value other q)
+    pub end-after : m < n → After ≡ order xs ys
     unfolding Level order
     end-after h =
-        let m : i < length (value rec p) = omega (arith, value-length rec p w) in
-        let n : length (value other q) ≤ i = omega (arith, value-length other q v) in
-        sym (l ∙ rw (drop-of-length-le (value other q), drop-cons (value rec p) i 0))
+        let p : i < length xs = omega arith in
+        let q : length ys ≤ i = omega arith in
+        sym (l ∙ rw (drop-of-length-le ys, drop-cons xs i 0))
 
-    pub end-same : q .width ≤ p .width → p .width ≤ q .width → Same ≡ order (value rec p) (value other q)
+    pub end-same : m ≤ n → n ≤ m → Same ≡ order xs ys
     unfolding Level order
     end-same h k =
-        let m : length (value rec p) ≤ i = omega (arith, value-length rec p w) in
-        let n : length (value other q) ≤ i = omega (arith, value-length other q v) in
-        sym (l ∙ rw (drop-of-length-le (value rec p), drop-of-length-le (value other q)))
+        let p : length xs ≤ i = omega arith in
+        let q : length ys ≤ i = omega arith in
+        sym (l ∙ rw (drop-of-length-le xs, drop-of-length-le ys))

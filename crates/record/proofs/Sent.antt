@@ -9,9 +9,9 @@ use native.Mathlib.Omega.{arith}
 use lib.Bits.{bitXor, xor-add-and, and-le-l, and-le-r}
 use lib.Dec.{leb, eqb}
 use lib.ListN.{length, take, drop, getD, drop-of-length-le}
-use lib.Seq.{drop-cons, slice}
-use borrow.Author.Tests.{lt-leb, le-leb, leb-true, leb-false, eq-eqb}
-use Rattle.page.specs.CodePage.{ebcdic, shown, twins}
+use lib.Seq.{drop-cons, slice, take-all}
+use borrow.Author.Tests.{lt-leb, le-leb, leb-true, leb-false, eq-eqb, ne-eqb}
+use Rattle.page.specs.CodePage.{codePage, ebcdic, shown, twins}
 use Rattle.page.proofs.CodePage.{below, below-each, digit-lands, digit-sent, twin-byte, twin-rest, valid-sent}
 use Rattle.page.proofs.Shown.{shownByte, shown-take, shown-drop, shown-at}
 use Rattle.record.specs.declared.Order.{Order}
@@ -19,12 +19,12 @@ use Rattle.record.specs.declared.Order.the-variants.{Before, Same, After
 use Rattle.record.specs.declared.place.Place.{Place}
 use Rattle.record.specs.Choice.{_and_, _or_, choose}
 use Rattle.record.specs.Ordering.{order}
-use Rattle.record.specs.Place.{Within, value, plain, sent, near, leastPrintable}
-use Rattle.record.specs.Tests.{every, only, digit, digits, valid, leastFrom, alike}
+use Rattle.record.specs.Place.{Within, value, plain, sent, near, leastPrintable, WholeOf}
+use Rattle.record.specs.Tests.{every, only, solid, digit, digits, valid, leastFrom, alike}
 use Rattle.record.proofs.Chain.{and-left, and-right, and-true}
 use Rattle.record.proofs.Every.{value-length, above-min, and-swap, digit-in, digit-range, valid-is}
 use Rattle.record.proofs.Numbers.{digit-at}
-use Rattle.record.proofs.Orders.{order-equal, before-not, after-not}
+use Rattle.record.proofs.Orders.{Level, level-next, order-equal, before-not, after-not}
 use Rattle.record.proofs.Same.{alike-equal, alike-self}
 
 pub value-sent : (rec : List ℕ) (p : Place) → value rec p ≡ shown (p .ascii) (sent rec p)
@@ -35,6 +35,10 @@ value-sent rec p = refl
 pub within-plain : (rec : List ℕ) (p : Place) → Within rec p → Within rec (plain p)
 unfolding Within
 within-plain rec p w = w
+
+-- as many bytes were sent as the place is wide
+pub sent-length : (rec : List ℕ) (p : Place) → Within rec p → length (sent rec p) ≡ p .width
+sent-length rec p w = value-length rec (plain p) (within-plain rec p w)
 
 pub plain-sent : (rec : List ℕ) (p : Place) → p .ascii ≡ false → value rec p ≡ sent rec p
 unfolding shown
@@ -55,18 +59,50 @@ unfolding every
 every-as q r e [] = refl
 every-as q r e (x ∷ xs) = rw (e x, every-as q r e xs)
 
--- one byte throughout
-pub only-sent : (rec : List ℕ) (p : Place) (b a w : ℕ) (r : Bool) → twins (a ∷ []) (b ∷ []) ≡ true → w ≡ choose (p .ascii) a b → r ≡ only w (sent rec p) → r ≡ only b (value rec p)
-unfolding only choose
-only-sent rec p b a w r t e h = go (p .ascii) refl
+-- one byte more is level
+pub sent-level : (rec : List ℕ) (p : Place) (other : List ℕ) (q : Place) (i s x y : ℕ) → Within rec p → Within other q → s ≡ min (p .width) (q .width) → i < s
+    → x ≡ getD (sent rec p) i 0 → y ≡ getD (sent other q) i 0 → x ≤ y → y ≤ x → Level (sent rec p) (sent other q) i → Level (sent rec p) (sent other q) (i + 1)
+sent-level rec p other q i s x y w v e h ex ey k j l =
+    level-next (sent rec p) (sent other q) i s (p .width) (q .width) (sent-length rec p w) (sent-length other q v) e x y h ex ey k j l
+
+-- the place of all bytes
+pub whole-of : (bytes : List ℕ) → WholeOf bytes (record { start = 0; width = length bytes; ascii = false })
+unfolding Within value shown
+whole-of bytes = record { within = omega arith; wide = refl; plain = refl; holds = take-all (length bytes) bytes (omega arith) }
+
+pub whole-sent : (bytes : List ℕ) (p : Place) → WholeOf bytes p → sent bytes p ≡ bytes
+whole-sent bytes p w = sym (plain-sent bytes p (w .plain)) ∙ w .holds
+
+-- a byte that is another or not
+pub eq-none : (x y : ℕ) → x ≡ y → not (eqb x y) ≡ false
+eq-none x y e = ap not (eq-eqb x y e)
+
+pub ne-none : (x y : ℕ) → (x ≡ y → ⊥) → not (eqb x y) ≡ true
+ne-none x y d = ap not (ne-eqb x y d)
+
+-- one test of every byte, by one byte and what it is sent as
+tested-sent : (g : Bool → Bool) (rec : List ℕ) (p : Place) (b a w : ℕ) (r : Bool) → twins (a ∷ []) (b ∷ []) ≡ true → w ≡ choose (p .ascii) a b
+    → r ≡ every (λ (x : ℕ). g (eqb x w)) (sent rec p) → r ≡ every (λ (x : ℕ). g (eqb x b)) (value rec p)
+unfolding choose
+tested-sent g rec p b a w r t e h = go (p .ascii) refl
   where
-    go : (c : Bool) → p .ascii ≡ c → r ≡ every (λ (x : ℕ). eqb x b) (value rec p)
+    go : (c : Bool) → p .ascii ≡ c → r ≡ every (λ (x : ℕ). g (eqb x b)) (value rec p)
     go true q =
         let v : w ≡ a = rw q at e in
-        h ∙ rw (v, ascii-sent rec p q, every-map (λ (x : ℕ). eqb x b) (sent rec p)) (sym (every-as (λ (x : ℕ). eqb (ebcdic x) b) (λ (x : ℕ). eqb x a) (twin-byte a b [] [] t) (sent rec p)))
+        h ∙ rw (v, ascii-sent rec p q, every-map (λ (x : ℕ). g (eqb x b)) (sent rec p)) (sym (every-as (λ (x : ℕ). g (eqb (ebcdic x) b)) (λ (x : ℕ). g (eqb x a)) (λ x. ap g (twin-byte a b [] [] t x)) (sent rec p)))
     go false q =
         let v : w ≡ b = rw q at e in
         h ∙ rw (v, plain-sent rec p q)
+
+-- one byte throughout
+pub only-sent : (rec : List ℕ) (p : Place) (b a w : ℕ) (r : Bool) → twins (a ∷ []) (b ∷ []) ≡ true → w ≡ choose (p .ascii) a b → r ≡ only w (sent rec p) → r ≡ only b (value rec p)
+unfolding only
+only-sent rec p b a w r t e h = tested-sent (λ x. x) rec p b a w r t e h
+
+-- no blank
+pub solid-sent : (rec : List ℕ) (p : Place) (w : ℕ) (r : Bool) → w ≡ choose (p .ascii) 0x20 0x40 → r ≡ every (λ (x : ℕ). not (eqb x w)) (sent rec p) → r ≡ solid (value rec p)
+unfolding solid twins ebcdic codePage
+solid-sent rec p w r e h = tested-sent not rec p 0x40 0x20 w r refl e h
 
 pub near-far : (z x : ℕ) → 9 < bitXor x z → near z x ≡ false
 unfolding near

@@ -10,7 +10,8 @@ use borrow.Author.Tests.{eqb-true}
 use lib.ListN.{length, drop, take-append-drop, drop-of-length-le, replicate}
 use lib.Seq.{drop-drop}
 use Rattle.record.specs.Choice.{_and_, choose}
-use Rattle.record.specs.Value.{held}
+use Rattle.record.specs.Fields.{text, fixed}
+use Rattle.record.specs.Value.{written}
 use Rattle.record.specs.Layout.{Record, Row, layout, records, rows, tiles, numbers, fillers, positionIn}
 use Rattle.record.specs.Layout.Record.{FileHeader, BatchHeader, Detail, Party, Account, Procurement, BatchTrailer, FileTrailer}
 use Rattle.record.proofs.Chain.{and-left, and-right}
@@ -41,13 +42,13 @@ pub fillers-are : fillers (rows records) ≡ 4 ∷ 11 ∷ 21 ∷ 63 ∷ 75 ∷ 8
 unfolding fillers rows records layout choose
 fillers-are = refl
 
--- what the fields hold, side by side
+-- the bytes of the fields, side by side
 pub glued : List ℕ → List Row → List ℕ
 glued rec [] = []
-glued rec (r ∷ rs) = held rec (r .position) ++ glued rec rs
+glued rec (r ∷ rs) = written rec (r .position) ++ glued rec rs
 
 glued-from : (rec : List ℕ) (rs : List Row) (at : ℕ) → length rec ≡ 850 → 1 ≤ at → tiles at rs ≡ true → glued rec rs ≡ drop (at - 1) rec
-unfolding tiles glued held
+unfolding tiles glued written
 glued-from rec [] at n h e =
     let k : at ≡ 851 = eqb-true at 851 e in
     let j : length rec ≤ at - 1 = omega arith in
@@ -58,15 +59,15 @@ glued-from rec (r ∷ rs) at n h e =
     let t = glued-from rec rs (at + r .position .width) n (omega arith) (and-right (eqb (r .position .start) at) _ e) in
     rw (k, t, m, ← drop-drop (r .position .width) (at - 1) rec) (take-append-drop (r .position .width) (drop (at - 1) rec))
 
--- a record of 850 bytes is what its fields hold, side by side: no byte is in no field, and none in two
+-- a record of 850 bytes is its fields, side by side: no byte is in no field, and none in two
 pub glued-is : (k : Record) (rec : List ℕ) → length rec ≡ 850 → glued rec (layout k) ≡ rec
 glued-is k rec n = glued-from rec (layout k) 1 n (omega arith) (tiled k)
 
 -- every record begins with its code, and a payment's records have its ID at the same positions
-pub codes-first : map (positionIn (rows records)) (1 ∷ 5 ∷ 22 ∷ 64 ∷ 76 ∷ 90 ∷ 98 ∷ 102 ∷ []) ≡ replicate 8 (record { start = 1; width = 2 })
+pub codes-first : map (positionIn (rows records)) (1 ∷ 5 ∷ 22 ∷ 64 ∷ 76 ∷ 90 ∷ 98 ∷ 102 ∷ []) ≡ replicate 8 (fixed 1 2)
 unfolding positionIn rows records layout choose
 codes-first = refl
 
-pub ids-same : map (positionIn (rows records)) (23 ∷ 65 ∷ 77 ∷ 91 ∷ []) ≡ replicate 4 (record { start = 3; width = 20 })
+pub ids-same : map (positionIn (rows records)) (23 ∷ 65 ∷ 77 ∷ 91 ∷ []) ≡ replicate 4 (text 3 20)
 unfolding positionIn rows records layout choose
 ids-same = refl

@@ -4,17 +4,19 @@ use mathlib.Core.Path.{_≡_, sym, _∙_}
 use denote.Ref.{now}
 use Rattle.record.proofs.field_blank.Reads as field-blank
 use Rattle.record.proofs.field_zeros.Reads as field-zeros
-use Rattle.record.proofs.field_valid.Reads as field-valid
 use Rattle.record.proofs.field_is.Reads as field-is
 use Rattle.record.proofs.field_digits.Reads as field-digits
+use Rattle.record.proofs.field_solid.Reads as field-solid
 use Rattle.record.proofs.field_number.Reads as field-number
-use Rattle.record.proofs.part_byte.Reads as part-byte
-use Rattle.record.proofs.part_is.Reads as part-is
 use Rattle.record.proofs.copy_field.Reads as copy-field
-use Rattle.record.proofs.part_digits.Reads as part-digits
 use Rattle.record.proofs.part_number.Reads as part-number
 use Rattle.record.proofs.fields_same.Reads as fields-same
 use Rattle.record.proofs.fields_order.Reads as fields-order
+use Rattle.record.proofs.field_order.Reads as field-order
+use Rattle.record.proofs.written_valid.Reads as written-valid
+use Rattle.record.proofs.written_is.Reads as written-is
+use Rattle.record.proofs.written_digits.Reads as written-digits
+use Rattle.record.proofs.written_number.Reads as written-number
 use Rattle.record.proofs.field_part.Reads as field-part
 use Rattle.record.proofs.codes.code_bytes.Reads as code-bytes
 use Rattle.record.proofs.codes.code_of.Reads as code-of
@@ -35,23 +37,17 @@ field-blank-unique κs a r s x y p q = p ∙ sym q
 pub field-zeros-unique : OneResult field-zeros.Post
 field-zeros-unique κs a r s x y p q = p ∙ sym q
 
-pub field-valid-unique : OneResult field-valid.Post
-field-valid-unique κs a r s x y p q = p ∙ sym q
-
 pub field-is-unique : OneResult field-is.Post
 field-is-unique κs a r s x y p q = p ∙ sym q
 
 pub field-digits-unique : OneResult field-digits.Post
 field-digits-unique κs a r s x y p q = p ∙ sym q
 
+pub field-solid-unique : OneResult field-solid.Post
+field-solid-unique κs a r s x y p q = p ∙ sym q
+
 pub field-number-unique : OneResult field-number.Post
 field-number-unique κs a r s x y p q = p ∙ sym q
-
-pub part-byte-unique : OneResult part-byte.Post
-part-byte-unique κs a r s x y p q = p ∙ sym q
-
-pub part-is-unique : OneResult part-is.Post
-part-is-unique κs a r s x y p q = p ∙ sym q
 
 -- behind three arguments, `.0` is the copy
 pub field-part-unique : (κs : _) (a : _) (r s : _) (x y : _) → field-part.Post κs a r x → field-part.Post κs a s y → now r ≡ now s
@@ -59,9 +55,6 @@ field-part-unique κs a r s x y p q = p ∙ sym q
 
 pub copy-field-unique : (κs : _) (a : _) (r s : _) (x y : _) → copy-field.Post κs a r x → copy-field.Post κs a s y → now (x .1 .1 .1 .0) ≡ now (y .1 .1 .1 .0)
 copy-field-unique κs a r s x y p q = p ∙ sym q
-
-pub part-digits-unique : OneResult part-digits.Post
-part-digits-unique κs a r s x y p q = p ∙ sym q
 
 pub part-number-unique : OneResult part-number.Post
 part-number-unique κs a r s x y p q = p ∙ sym q
@@ -71,6 +64,21 @@ fields-same-unique κs a r s x y p q = p ∙ sym q
 
 pub fields-order-unique : OneResult fields-order.Post
 fields-order-unique κs a r s x y p q = p ∙ sym q
+
+pub field-order-unique : OneResult field-order.Post
+field-order-unique κs a r s x y p q = p ∙ sym q
+
+pub written-valid-unique : OneResult written-valid.Post
+written-valid-unique κs a r s x y p q = p ∙ sym q
+
+pub written-is-unique : OneResult written-is.Post
+written-is-unique κs a r s x y p q = p ∙ sym q
+
+pub written-digits-unique : OneResult written-digits.Post
+written-digits-unique κs a r s x y p q = p ∙ sym q
+
+pub written-number-unique : OneResult written-number.Post
+written-number-unique κs a r s x y p q = p ∙ sym q
 
 pub code-bytes-unique : OneResult code-bytes.Post
 code-bytes-unique κs a r s x y p q = p ∙ sym q

@@ -1,10 +1,12 @@
 pub mod Choice
 pub mod Fields
 pub mod Layout
-pub mod Value
 pub mod Tests
+pub mod Correction
+pub mod Value
 pub mod Numeral
 pub mod Ordering
 pub mod Place
+pub mod Moved
 pub mod Codes
 pub mod Routing

@@ -1,4 +1,4 @@
--- Where a value stands in a record: known to `locate` and `byte` alone, so that another way to hold a value changes them and nothing above them.
+-- Where a field's bytes stand in a record: known to `locate` and `byte` alone.
 use Prim.Native.Nat.{ℕ, _+_, _≤_, min}
 use mathlib.Core.Path.{_≡_}
 use mathlib.Core.Bool.{Bool, false}
@@ -11,7 +11,7 @@ use Rattle.record.specs.declared.Line.{Line}
 use Rattle.record.specs.declared.place.Place.{Place}
 use Rattle.page.specs.CodePage.{shown}
 use Rattle.record.specs.Choice.{choose}
-use Rattle.record.specs.Value.{held, seen}
+use Rattle.record.specs.Value.{written, seen}
 
 -- the place lies in the record
 unfoldable pub Within : List ℕ → Place → Type 0
@@ -38,8 +38,16 @@ unfoldable pub leastPrintable : ℕ → List ℕ → ℕ
 leastPrintable n [] = n
 leastPrintable n (x ∷ xs) = leastPrintable (min (choose (leb x 0x7E) x 0) n) xs
 
--- what `locate` promises: the place holds what the field holds
+-- what `locate` promises: the place has the field's bytes
 pub record PlaceOf (rec : List ℕ) (line : Line) (f : Field) (p : Place) : Type 0 where
   pub within : Within rec p
   pub wide : p .width ≡ f .width
-  pub holds : value rec p ≡ held (seen line rec) f
+  pub coded : p .ascii ≡ line .ascii
+  pub holds : value rec p ≡ written (seen line rec) f
+
+-- what `whole` promises: the place of all these bytes
+pub record WholeOf (bytes : List ℕ) (p : Place) : Type 0 where
+  pub within : Within bytes p
+  pub wide : p .width ≡ length bytes
+  pub plain : p .ascii ≡ false
+  pub holds : value bytes p ≡ bytes

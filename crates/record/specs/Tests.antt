@@ -1,6 +1,6 @@
 -- Tests of what a field holds.
 use Prim.Native.Nat.{ℕ, min}
-use mathlib.Core.Bool.{Bool, true, false}
+use mathlib.Core.Bool.{Bool, true, false, not}
 use mathlib.Core.List.{List, [], _∷_}
 use lib.Dec.{leb, eqb}
 use Rattle.record.specs.Choice.{_and_}
@@ -29,6 +29,10 @@ digit x = leb 0xF0 x and leb x 0xF9
 -- all digits (01 Batch reasons: a non-digit is badly shaped)
 unfoldable pub digits : List ℕ → Bool
 digits xs = every digit xs
+
+-- no byte is blank (01 Batch reasons, field 7)
+unfoldable pub solid : List ℕ → Bool
+solid xs = every (λ (x : ℕ). not (eqb x 0x40)) xs
 
 -- no byte is below hex 40 (004 section 1.4, 01 file answer 7)
 unfoldable pub valid : List ℕ → Bool

@@ -1,11 +1,13 @@
 // Record codes (004 section 1.2), compared with their fixed EBCDIC bytes.
 use crate::Line;
-use crate::field_is;
 use crate::layout::RECORD_CODE;
+use crate::place;
 use page::translate_all;
 ghost use mathlib.Core.Path.{_≡_};
+ghost use mathlib.Core.Bool.{true};
 ghost use Prim.Native.Nat.{_≤_};
 ghost use lib.ListN.{length};
+ghost use Rattle.page.specs.CodePage.{twins};
 ghost use Rattle.record.specs.Fields.{recordCode};
 ghost use Rattle.record.specs.Value.{seen, held};
 ghost use Rattle.record.specs.Tests.{alike};
@@ -144,27 +146,36 @@ pub fn is_detail(code: Code) -> bool
     }
 }
 
+// The record begins with this code, which ASCII files send as the second. A record code is never moved.
+fn has_code<'a>(rec: &[u8], line: Line, text: &'a [u8], ascii: &'a [u8]) -> bool
+    requires { ⌜ (2 ≤ length (now rec)) × (twins (now ascii) (now text) ≡ true) ⌝ }
+    ensures { λ r. ⌜ r ≡ alike (held (seen line (now (rec .entry))) recordCode) (now (text .entry)) ⌝ }
+{
+    let place = place::locate(rec, line, RECORD_CODE);
+    place::is_text(rec, place, text, ascii)
+}
+
 // The record is a detail: one of five codes, compared as they were sent. DX is asked for first: a batch has one for each detail, or more (01 Nesting).
 pub fn has_detail(rec: &[u8], line: Line) -> bool
     requires { ⌜ 2 ≤ length (now rec) ⌝ }
     ensures { λ r. ⌜ r ≡ isDetail (codeOf (seen line (now (rec .entry)))) ⌝ }
 {
-    if field_is(rec, line, RECORD_CODE, b"\xC4\xE7", b"DX") {
+    if has_code(rec, line, b"\xC4\xE7", b"DX") {
         return false;
     }
-    if field_is(rec, line, RECORD_CODE, b"\xC4\xD5", b"DN") {
+    if has_code(rec, line, b"\xC4\xD5", b"DN") {
         return true;
     }
-    if field_is(rec, line, RECORD_CODE, b"\xC4\xC3", b"DC") {
+    if has_code(rec, line, b"\xC4\xC3", b"DC") {
         return true;
     }
-    if field_is(rec, line, RECORD_CODE, b"\xC4\xE6", b"DW") {
+    if has_code(rec, line, b"\xC4\xE6", b"DW") {
         return true;
     }
-    if field_is(rec, line, RECORD_CODE, b"\xC4\xC9", b"DI") {
+    if has_code(rec, line, b"\xC4\xC9", b"DI") {
         return true;
     }
-    field_is(rec, line, RECORD_CODE, b"\xC4\xC1", b"DA")
+    has_code(rec, line, b"\xC4\xC1", b"DA")
 }
 
 // The record is a batch header: one of five codes, compared as they were sent.
@@ -172,19 +183,19 @@ pub fn has_header(rec: &[u8], line: Line) -> bool
     requires { ⌜ 2 ≤ length (now rec) ⌝ }
     ensures { λ r. ⌜ r ≡ isHeader (codeOf (seen line (now (rec .entry)))) ⌝ }
 {
-    if field_is(rec, line, RECORD_CODE, b"\xC2\xD5", b"BN") {
+    if has_code(rec, line, b"\xC2\xD5", b"BN") {
         return true;
     }
-    if field_is(rec, line, RECORD_CODE, b"\xC2\xC3", b"BC") {
+    if has_code(rec, line, b"\xC2\xC3", b"BC") {
         return true;
     }
-    if field_is(rec, line, RECORD_CODE, b"\xC2\xE6", b"BW") {
+    if has_code(rec, line, b"\xC2\xE6", b"BW") {
         return true;
     }
-    if field_is(rec, line, RECORD_CODE, b"\xC2\xC9", b"BI") {
+    if has_code(rec, line, b"\xC2\xC9", b"BI") {
         return true;
     }
-    field_is(rec, line, RECORD_CODE, b"\xC2\xC1", b"BA")
+    has_code(rec, line, b"\xC2\xC1", b"BA")
 }
 
 // The code is BT.

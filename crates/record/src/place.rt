@@ -2,20 +2,19 @@
 use crate::Field;
 use crate::Line;
 use crate::Order;
-use page::translate;
 use page::translate_all;
 ghost use mathlib.Core.Path.{_≡_};
-ghost use mathlib.Core.Bool.{true};
+ghost use mathlib.Core.Bool.{true, not};
 ghost use mathlib.Core.List.{[], _∷_};
 ghost use lib.Dec.{leb, eqb};
-ghost use Prim.Native.Nat.{_-_, _<_, _≤_, min};
+ghost use Prim.Native.Nat.{ℕ, _-_, _<_, _≤_, min};
 ghost use lib.ListN.{length, getD};
 ghost use lib.Seq.{slice};
 ghost use Rattle.record.specs.Value.{Has};
 ghost use Rattle.page.specs.CodePage.{twins};
-ghost use Rattle.record.specs.Choice.{_or_, choose};
-ghost use Rattle.record.specs.Place.{Within, value, sent, near, leastPrintable, PlaceOf};
-ghost use Rattle.record.specs.Tests.{only, every, digits, valid, alike};
+ghost use Rattle.record.specs.Choice.{choose};
+ghost use Rattle.record.specs.Place.{Within, value, sent, near, leastPrintable, PlaceOf, WholeOf};
+ghost use Rattle.record.specs.Tests.{only, every, digits, solid, valid, alike};
 ghost use Rattle.record.specs.Numeral.{numeral};
 ghost use Rattle.record.specs.Ordering.{order};
 ghost use Rattle.record.specs.Tests.{leastFrom};
@@ -39,21 +38,19 @@ pub(crate) fn locate(rec: &[u8], line: Line, field: Field) -> Place
     }
 }
 
-// The value's byte at `i`: the one way a value is read.
-pub(crate) fn byte(rec: &[u8], place: Place, i: usize) -> u8
-    requires { ⌜ Within (now rec) place × (i < place .width) ⌝ }
-    ensures { λ r. ⌜ r ≡ getD (value (now (rec .entry)) place) i 0 ⌝ }
+// The place of all these bytes.
+pub(crate) fn whole(bytes: &[u8]) -> Place
+    ensures { λ r. ⌜ WholeOf (now (bytes .entry)) r ⌝ }
 {
-    let at = place.start + i;
-    let sent = rec[at];
-    if place.ascii {
-        return translate(sent);
+    Place {
+        start: 0,
+        width: bytes.len(),
+        ascii: false,
     }
-    sent
 }
 
 // The value's byte at `i`, as it was sent.
-fn sent_byte(rec: &[u8], place: Place, i: usize) -> u8
+pub(crate) fn sent_byte(rec: &[u8], place: Place, i: usize) -> u8
     requires { ⌜ Within (now rec) place × (i < place .width) ⌝ }
     ensures { λ r. ⌜ r ≡ getD (sent (now (rec .entry)) place) i 0 ⌝ }
 {
@@ -62,7 +59,7 @@ fn sent_byte(rec: &[u8], place: Place, i: usize) -> u8
 }
 
 // Copies the bytes at the place, as they were sent.
-fn copy_sent(rec: &[u8], place: Place, to: &mut [u8])
+pub(crate) fn copy_sent(rec: &[u8], place: Place, to: &mut [u8])
     requires { ⌜ Within (now rec) place × (length (now to) ≡ place .width) ⌝ }
     ensures { λ r. ⌜ now (to .exit) ≡ sent (now (rec .entry)) place ⌝ }
 {
@@ -86,7 +83,7 @@ pub(crate) fn copy(rec: &[u8], place: Place, to: &mut [u8])
 }
 
 // What a byte of the value that is seen as `b` was sent as: in ASCII as `ascii`.
-fn sent_as(place: Place, b: u8, ascii: u8) -> u8
+pub(crate) fn sent_as(place: Place, b: u8, ascii: u8) -> u8
     ensures { λ r. ⌜ r ≡ choose (place .ascii) ascii b ⌝ }
 {
     if place.ascii {
@@ -127,6 +124,31 @@ pub(crate) fn is_only(rec: &[u8], place: Place, b: u8, ascii: u8) -> bool
 {
     let wanted = sent_as(place, b, ascii);
     has_only(rec, place, wanted)
+}
+
+// No byte at the place was sent as `b`.
+fn has_none(rec: &[u8], place: Place, b: u8) -> bool
+    requires { ⌜ Within (now rec) place ⌝ }
+    ensures { λ r. ⌜ r ≡ every (λ (x : ℕ). not (eqb x b)) (sent (now (rec .entry)) place) ⌝ }
+{
+    let n = place.width;
+    let mut i = 0;
+    while i < n {
+        if sent_byte(rec, place, i) == b {
+            return false;
+        }
+        i += 1;
+    }
+    true
+}
+
+// No byte of the value is blank: no byte is translated.
+pub(crate) fn is_solid(rec: &[u8], place: Place) -> bool
+    requires { ⌜ Within (now rec) place ⌝ }
+    ensures { λ r. ⌜ r ≡ solid (value (now (rec .entry)) place) ⌝ }
+{
+    let blank = sent_as(place, 0x40, 0x20);
+    has_none(rec, place, blank)
 }
 
 // The bytes that were sent from `from` up to `to` are near this zero.
@@ -276,7 +298,7 @@ pub(crate) fn is_text<'a>(rec: &[u8], place: Place, text: &'a [u8], ascii: &'a [
 }
 
 // The lesser of two widths.
-fn shorter(a: usize, b: usize) -> usize
+pub(crate) fn shorter(a: usize, b: usize) -> usize
     ensures { λ r. ⌜ r ≡ min a b ⌝ }
 {
     if a < b {
@@ -285,37 +307,8 @@ fn shorter(a: usize, b: usize) -> usize
     b
 }
 
-// How the first value stands to the second in the order of bytes, byte by byte as they are seen.
-fn shown_order(rec: &[u8], place: Place, other: &[u8], there: Place) -> Order
-    requires { ⌜ Within (now rec) place × Within (now other) there ⌝ }
-    ensures { λ r. ⌜ r ≡ order (value (now (rec .entry)) place) (value (now (other .entry)) there) ⌝ }
-{
-    let n = place.width;
-    let m = there.width;
-    let shared = shorter(n, m);
-    let mut i = 0;
-    while i < shared {
-        let a = byte(rec, place, i);
-        let b = byte(other, there, i);
-        if a < b {
-            return Order::Before;
-        }
-        if b < a {
-            return Order::After;
-        }
-        i += 1;
-    }
-    if n < m {
-        return Order::Before;
-    }
-    if m < n {
-        return Order::After;
-    }
-    Order::Same
-}
-
-// The same of the bytes as they were sent.
-fn sent_order(rec: &[u8], place: Place, other: &[u8], there: Place) -> Order
+// How the first bytes stand to the second in the order of bytes, as they were sent.
+pub(crate) fn sent_order(rec: &[u8], place: Place, other: &[u8], there: Place) -> Order
     requires { ⌜ Within (now rec) place × Within (now other) there ⌝ }
     ensures { λ r. ⌜ r ≡ order (sent (now (rec .entry)) place) (sent (now (other .entry)) there) ⌝ }
 {
@@ -343,64 +336,8 @@ fn sent_order(rec: &[u8], place: Place, other: &[u8], there: Place) -> Order
     Order::Same
 }
 
-// One of the two.
-fn either(a: bool, b: bool) -> bool
-    ensures { λ r. ⌜ r ≡ (a or b) ⌝ }
-{
-    if a {
-        return true;
-    }
-    b
-}
-
-// How the first value stands to the second in the order of bytes. What is translated is lent anew, so that nothing of it is kept on the stack
-// where nothing is.
-pub(crate) fn compare(rec: &[u8], place: Place, other: &[u8], there: Place) -> Order
-    requires { ⌜ Within (now rec) place × Within (now other) there ⌝ }
-    ensures { λ r. ⌜ r ≡ order (value (now (rec .entry)) place) (value (now (other .entry)) there) ⌝ }
-{
-    if either(place.ascii, there.ascii) {
-        return shown_order(&rec[..], place, &other[..], there);
-    }
-    sent_order(rec, place, other, there)
-}
-
-// The bytes at `i` are seen as the same: they are where both are ASCII and were sent alike, and else by translation.
-fn same_at(rec: &[u8], place: Place, other: &[u8], there: Place, i: usize) -> bool
-    requires { ⌜ Within (now rec) place × Within (now other) there × (i < place .width) × (i < there .width) ⌝ }
-    ensures { λ r. ⌜ r ≡ eqb (getD (value (now (rec .entry)) place) i 0) (getD (value (now (other .entry)) there) i 0) ⌝ }
-{
-    if place.ascii {
-        if there.ascii {
-            if sent_byte(rec, place, i) == sent_byte(other, there, i) {
-                return true;
-            }
-        }
-    }
-    byte(rec, place, i) == byte(other, there, i)
-}
-
-// The two values are the same, byte by byte as they are seen.
-fn shown_same(rec: &[u8], place: Place, other: &[u8], there: Place) -> bool
-    requires { ⌜ Within (now rec) place × Within (now other) there ⌝ }
-    ensures { λ r. ⌜ r ≡ alike (value (now (rec .entry)) place) (value (now (other .entry)) there) ⌝ }
-{
-    let n = place.width;
-    if there.width != n {
-        return false;
-    }
-    let mut i = 0;
-    while i < n {
-        if !same_at(rec, place, other, there, i) {
-            return false;
-        }
-        i += 1;
-    }
-    true
-}
-
-// The same of the bytes as they were sent.
-fn sent_same(rec: &[u8], place: Place, other: &[u8], there: Place) -> bool
+// The bytes are the same, as they were sent.
+pub(crate) fn sent_same(rec: &[u8], place: Place, other: &[u8], there: Place) -> bool
     requires { ⌜ Within (now rec) place × Within (now other) there ⌝ }
     ensures { λ r. ⌜ r ≡ alike (sent (now (rec .entry)) place) (sent (now (other .entry)) there) ⌝ }
 {
@@ -416,15 +353,4 @@ fn sent_same(rec: &[u8], place: Place, other: &[u8], there: Place) -> bool
         i += 1;
     }
     true
-}
-
-// The two values are the same.
-pub(crate) fn is_same(rec: &[u8], place: Place, other: &[u8], there: Place) -> bool
-    requires { ⌜ Within (now rec) place × Within (now other) there ⌝ }
-    ensures { λ r. ⌜ r ≡ alike (value (now (rec .entry)) place) (value (now (other .entry)) there) ⌝ }
-{
-    if either(place.ascii, there.ascii) {
-        return shown_same(&rec[..], place, &other[..], there);
-    }
-    sent_same(rec, place, other, there)
 }

@@ -64,7 +64,6 @@ fn agrees(file: &[u8], first: Line, earlier: usize, place: usize, sort: Sort) ->
     record::fields_same(
         &file[from..to],
         Line { number, ascii },
-        field,
         &file[at..end],
         Line { number: own, ascii },
         field,

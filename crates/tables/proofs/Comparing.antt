@@ -16,11 +16,11 @@ use Rattle.record.specs.declared.Order.{Order}
 use Rattle.record.specs.declared.Order.the-variants.{Before, Same, After}
 use Rattle.page.specs.CodePage.{shown}
 use Rattle.record.specs.Choice.{choose}
-use Rattle.record.specs.Fields.{span, businessEventTypeCode}
+use Rattle.record.specs.Fields.{fixed, businessEventTypeCode}
 use Rattle.record.specs.Value.{held}
 use Rattle.record.specs.Ordering.{order}
 use Rattle.record.specs.Layout.{layout, positionIn}
-use Rattle.record.proofs.Held.{held-length, held-shown}
+use Rattle.record.proofs.Held.{held-length, held-alike, written-shown}
 use Rattle.record.proofs.Orders.{order-self}
 use Rattle.tables.specs.Kind.{kindFields, heldBy, kind}
 use Rattle.tables.specs.Comparing.{stretch, common, kindField, Under}
@@ -107,9 +107,9 @@ within (suc d) w (suc n) [] h = refl
 within (suc d) w (suc n) (x ∷ xs) h = within d w n xs (omega arith)
 
 -- where a field's bytes were sent alike, it holds the same
-held-alike : (ascii : Bool) (rec other : List ℕ) (f : Field) → take (f .width) (drop (f .start - 1) rec) ≡ take (f .width) (drop (f .start - 1) other)
+sent-held : (ascii : Bool) (rec other : List ℕ) (f : Field) → take (f .width) (drop (f .start - 1) rec) ≡ take (f .width) (drop (f .start - 1) other)
     → held (shown ascii rec) f ≡ held (shown ascii other) f
-held-alike ascii rec other f e = sym (held-shown ascii rec f) ∙ ap (shown ascii) e ∙ held-shown ascii other f
+sent-held ascii rec other f e = held-alike (shown ascii rec) (shown ascii other) f (sym (written-shown ascii rec f) ∙ ap (shown ascii) e ∙ written-shown ascii other f)
 
 -- a field that lies within the stretch, in its bytes
 stretch-part : (rec : List ℕ) (f : Field) → 23 ≤ f .start → f .start + f .width ≤ 55 → take (f .width) (drop (f .start - 23) (stretch rec)) ≡ take (f .width) (drop (f .start - 1) rec)
@@ -137,7 +137,7 @@ fields-nine = refl
 module _ (k : ℕ) (h : k < 9) (f : Field) (e : f ≡ kindField k) where
   lies : (23 ≤ f .start) × (f .start + f .width ≤ 55)
   unfolding kindField
-  lies = rw e (under-at 32 kindFields k (span 1 0) kind-under (omega (arith, fields-nine)))
+  lies = rw e (under-at 32 kindFields k (fixed 1 0) kind-under (omega (arith, fields-nine)))
 
   pub has-start : 1 ≤ f .start
   has-start = omega (arith, lies .0)
@@ -197,7 +197,7 @@ module _ (ascii own : Bool) (rec other : List ℕ) where
     sent-alike : (f : Field) → 23 ≤ f .start → f .start + f .width ≤ 23 + n → held a f ≡ held b f
     sent-alike f s l =
         rw (← t)
-        (held-alike ascii rec other f
+        (sent-held ascii rec other f
         (sym (stretch-part rec f s (omega arith))
         ∙ sym (within (f .start - 23) (f .width) n (stretch rec) (omega arith))
         ∙ ap (λ (xs : List ℕ). take (f .width) (drop (f .start - 23) xs)) e
@@ -230,7 +230,7 @@ module _ (ascii own : Bool) (rec other : List ℕ) where
           let c : k < length kindFields = omega (arith, fields-nine) in
           let w = held-length ascii rec f (has-start k h f e, has-end k h f e rec m) in
           let v = held-length own other f (has-start k h f e, has-end k h f e other n) in
-          l ∙ rw (drop-cons kindFields k (span 1 0), ← e) (beside (held a f) (held b f) _ _ (w ∙ sym v))
+          l ∙ rw (drop-cons kindFields k (fixed 1 0), ← e) (beside (held a f) (held b f) _ _ (w ∙ sym v))
 
       module _ (r : Order) (q : r ≡ order (held a f) (held b f)) where
         pub left-before : r ≡ Before → Before ≡ order (kind a) (kind b)

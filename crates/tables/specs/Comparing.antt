@@ -5,7 +5,7 @@ use lib.Dec.{eqb}
 use lib.ListN.{take, drop, getD}
 use Rattle.record.specs.declared.Field.{Field}
 use Rattle.record.specs.Choice.{choose}
-use Rattle.record.specs.Fields.{span}
+use Rattle.record.specs.Fields.{fixed}
 use Rattle.tables.specs.Kind.{kindFields}
 
 -- the bytes of the kind's fields as they were sent: positions 23 to 54
@@ -20,7 +20,7 @@ common (x ∷ xs) (y ∷ ys) = choose (eqb x y) (suc (common xs ys)) 0
 
 -- the kind's field at k, counted from 0
 unfoldable pub kindField : ℕ → Field
-kindField k = getD kindFields k (span 1 0)
+kindField k = getD kindFields k (fixed 1 0)
 
 -- the fields lie within the first n bytes of the stretch
 unfoldable pub Under : ℕ → List Field → Type 0

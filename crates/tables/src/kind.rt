@@ -1,5 +1,6 @@
 // The order of two kinds (02 W1): field by field, since what a field holds is a matter of that field alone.
 use record::Field;
+use record::Justification;
 use record::Line;
 use record::Order;
 use record::layout::AGENCY_IDENTIFIER;
@@ -18,30 +19,35 @@ ghost use Rattle.tables.specs.Comparing.{stretch, common, kindField, Und
 const SUB_LEVEL_PREFIX_CODE: Field = Field {
     start: 23,
     width: 2,
+    justification: Justification::Text,
 };
 
 // Field 79.
 const ALLOCATION_TRANSFER_AGENCY_IDENTIFIER: Field = Field {
     start: 25,
     width: 3,
+    justification: Justification::Text,
 };
 
 // Field 81.
 const BEGINNING_PERIOD_OF_AVAILABILITY: Field = Field {
     start: 31,
     width: 4,
+    justification: Justification::Text,
 };
 
 // Field 82.
 const ENDING_PERIOD_OF_AVAILABILITY: Field = Field {
     start: 35,
     width: 4,
+    justification: Justification::Text,
 };
 
 // Field 83.
 const AVAILABILITY_TYPE_CODE: Field = Field {
     start: 39,
     width: 1,
+    justification: Justification::Text,
 };
 
 // The fields of a kind: 004's 78 to 86.
@@ -111,7 +117,7 @@ pub fn kind_order(rec: &[u8], line: Line, other: &[u8], other_line: Line) -> Ord
     let mut k = field_at(first_unlike(rec, other));
     while k < FIELDS {
         let field = kind_field(k);
-        match record::fields_order(rec, line, field, other, other_line, field) {
+        match record::fields_order(rec, line, other, other_line, field) {
             Order::Before => {
                 return Order::Before;
             }

@@ -46,7 +46,7 @@ fn compare(file: &[u8], first: Line, place: usize, other: usize, key: Key) -> Or
     let rec = &file[from..to];
     let other_rec = &file[at..end];
     match key {
-        Key::Value(field) => record::fields_order(rec, line, field, other_rec, other_line, field),
+        Key::Value(field) => record::fields_order(rec, line, other_rec, other_line, field),
         Key::Kind => kind::kind_order(rec, line, other_rec, other_line),
     }
 }

@@ -8,14 +8,14 @@ use Rattle.calendar.proofs.date_ccyy_mm_dd.Tie as tie
 has-dashes-requires : tie.Need-has-dashes-requires
 has-dashes-requires c κs = search needs
 
-part-number-requires : tie.Need-part-number-requires
-part-number-requires c κs = search (needs, year-digits)
+written-number-requires : tie.Need-written-number-requires
+written-number-requires c κs = search (needs, year-digits)
 
-part-number-requires-2 : tie.Need-part-number-requires-2
-part-number-requires-2 c κs = search (needs, month-digits)
+written-number-requires-2 : tie.Need-written-number-requires-2
+written-number-requires-2 c κs = search (needs, month-digits)
 
-part-number-requires-3 : tie.Need-part-number-requires-3
-part-number-requires-3 c κs = search (needs, day-digits)
+written-number-requires-3 : tie.Need-written-number-requires-3
+written-number-requires-3 c κs = search (needs, day-digits)
 
 is-real-day-requires : tie.Need-is-real-day-requires
 is-real-day-requires c κs = search needs
@@ -32,9 +32,9 @@ date-ccyy-mm-dd-spec =
     tie.close
     (tie.spec
     has-dashes-requires
-    part-number-requires
-    part-number-requires-2
-    part-number-requires-3
+    written-number-requires
+    written-number-requires-2
+    written-number-requires-3
     is-real-day-requires
     returns
     returns-2)

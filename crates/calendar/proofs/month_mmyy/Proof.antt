@@ -1,6 +1,5 @@
 use Rattle.record.proofs.Chain.{and-no, told}
 use Rattle.calendar.specs.Calendar.{monthYear}
-use Rattle.record.proofs.Every.{digits-part}
 use Rattle.calendar.proofs.Dates.{month-zero, month-read}
 use borrow.Author.Needs.{needs}
 use Rattle.calendar.proofs.month_mmyy.Statement.{statement}
@@ -10,7 +9,7 @@ field-digits-requires : tie.Need-field-digits-requires
 field-digits-requires c κs = search needs
 
 part-number-requires : tie.Need-part-number-requires
-part-number-requires c κs = search (needs, digits-part)
+part-number-requires c κs = search (needs, told)
 
 returns : tie.Need-returns
 returns c = search (needs, month-zero)

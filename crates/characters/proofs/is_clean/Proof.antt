@@ -7,8 +7,8 @@ use Rattle.characters.proofs.is_clean.Tie as tie
 enum-told : tie.Need-enum-told
 enum-told c = search needs
 
-field-valid-requires : tie.Need-field-valid-requires
-field-valid-requires c κs = search needs
+written-valid-requires : tie.Need-written-valid-requires
+written-valid-requires c κs = search needs
 
 enum-told-2 : tie.Need-enum-told-2
 enum-told-2 c = search needs
@@ -19,38 +19,38 @@ is-clean-header-requires c κs = search needs
 enum-told-3 : tie.Need-enum-told-3
 enum-told-3 c = search needs
 
-field-valid-requires-2 : tie.Need-field-valid-requires-2
-field-valid-requires-2 c κs = search needs
+written-valid-requires-2 : tie.Need-written-valid-requires-2
+written-valid-requires-2 c κs = search needs
 
 enum-told-4 : tie.Need-enum-told-4
 enum-told-4 c = search needs
 
-field-valid-requires-3 : tie.Need-field-valid-requires-3
-field-valid-requires-3 c κs = search needs
+written-valid-requires-3 : tie.Need-written-valid-requires-3
+written-valid-requires-3 c κs = search needs
 
 enum-told-5 : tie.Need-enum-told-5
 enum-told-5 c = search needs
 
-field-valid-requires-4 : tie.Need-field-valid-requires-4
-field-valid-requires-4 c κs = search needs
+written-valid-requires-4 : tie.Need-written-valid-requires-4
+written-valid-requires-4 c κs = search needs
 
 enum-told-6 : tie.Need-enum-told-6
 enum-told-6 c = search needs
 
-field-valid-requires-5 : tie.Need-field-valid-requires-5
-field-valid-requires-5 c κs = search needs
+written-valid-requires-5 : tie.Need-written-valid-requires-5
+written-valid-requires-5 c κs = search needs
 
 enum-told-7 : tie.Need-enum-told-7
 enum-told-7 c = search needs
 
-field-valid-requires-6 : tie.Need-field-valid-requires-6
-field-valid-requires-6 c κs = search needs
+written-valid-requires-6 : tie.Need-written-valid-requires-6
+written-valid-requires-6 c κs = search needs
 
 enum-told-8 : tie.Need-enum-told-8
 enum-told-8 c = search needs
 
-field-valid-requires-7 : tie.Need-field-valid-requires-7
-field-valid-requires-7 c κs = search needs
+written-valid-requires-7 : tie.Need-written-valid-requires-7
+written-valid-requires-7 c κs = search needs
 
 enum-told-9 : tie.Need-enum-told-9
 enum-told-9 c = search needs
@@ -96,21 +96,21 @@ is-clean-spec =
     tie.close
     (tie.spec
     enum-told
-    field-valid-requires
+    written-valid-requires
     enum-told-2
     is-clean-header-requires
     enum-told-3
-    field-valid-requires-2
+    written-valid-requires-2
     enum-told-4
-    field-valid-requires-3
+    written-valid-requires-3
     enum-told-5
-    field-valid-requires-4
+    written-valid-requires-4
     enum-told-6
-    field-valid-requires-5
+    written-valid-requires-5
     enum-told-7
-    field-valid-requires-6
+    written-valid-requires-6
     enum-told-8
-    field-valid-requires-7
+    written-valid-requires-7
     enum-told-9
     returns
     returns-2

@@ -1,3 +1,4 @@
+use Rattle.record.proofs.Leaves.{digits-held, number-stands, digits-moved, number-moved}
 use borrow.Author.Needs.{needs}
 use Rattle.record.proofs.part_number.Statement.{statement}
 use Rattle.record.proofs.part_number.Tie as tie
@@ -5,11 +6,32 @@ use Rattle.record.proofs.part_number.Tie as tie
 locate-requires : tie.Need-locate-requires
 locate-requires c κs = search needs
 
+stands-requires : tie.Need-stands-requires
+stands-requires c κs = search needs
+
 number-requires : tie.Need-number-requires
-number-requires c κs = (search needs, search needs, search needs, search needs, cc)
+number-requires c κs = search (needs, digits-held)
 
 returns : tie.Need-returns
-returns c = cc
+returns c = search (needs, number-stands)
+
+locate-requires-2 : tie.Need-locate-requires-2
+locate-requires-2 c κs = search needs
+
+number-requires-2 : tie.Need-number-requires-2
+number-requires-2 c κs = search (needs, digits-moved)
+
+returns-2 : tie.Need-returns-2
+returns-2 c = search (needs, number-moved)
 
 pub part-number-spec : {M : Type 1} → statement M
-part-number-spec = tie.close (tie.spec locate-requires number-requires returns)
+part-number-spec =
+    tie.close
+    (tie.spec
+    locate-requires
+    stands-requires
+    number-requires
+    returns
+    locate-requires-2
+    number-requires-2
+    returns-2)

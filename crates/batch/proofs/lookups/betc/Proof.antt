@@ -6,7 +6,7 @@ use Rattle.batch.proofs.lookups.betc.Statement.{statement}
 use Rattle.batch.proofs.lookups.betc.Tie as tie
 
 look-up-requires : tie.Need-look-up-requires
-look-up-requires c κs = let u = c .before .before .before .pre .0 in (u .betcs .shelved, search needs)
+look-up-requires c κs = let u = c .before .before .before .pre .0 in (u .betcs .shelved, search needs, search needs)
 
 returns : tie.Need-returns
 unfolding batch.betc listedAt

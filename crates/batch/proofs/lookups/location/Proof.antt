@@ -6,7 +6,7 @@ use Rattle.batch.proofs.lookups.location.Statement.{statement}
 use Rattle.batch.proofs.lookups.location.Tie as tie
 
 look-up-requires : tie.Need-look-up-requires
-look-up-requires c κs = let u = c .before .before .before .pre .0 in (u .locations .shelved, search needs)
+look-up-requires c κs = let u = c .before .before .before .pre .0 in (u .locations .shelved, search needs, search needs)
 
 returns : tie.Need-returns
 unfolding batch.location listedAt

@@ -1,125 +1,44 @@
+use mathlib.Core.Path.{sym}
+use lib.Seq.{length-take-le}
+use Rattle.record.proofs.Held.{held-length}
+use Rattle.book.proofs.Lookup.{found-part, found-copy}
 use borrow.Author.Needs.{needs}
-use Prim.Native.Nat.{_-_}
-use Rattle.record.specs.Value.{seen, held}
-use Rattle.record.proofs.Bracket.{opened}
-use Rattle.book.proofs.Lookup.{Sought, fits, readable, missed, hit, sought-raised, sought-lowered}
 use Rattle.book.proofs.search.find.Statement.{statement}
 use Rattle.book.proofs.search.find.Tie as tie
 
-abbrev Inv-loop : tie.InvT-loop
-Inv-loop book rec line field start entry code low₀ high₀ low high = Sought book (record { start = start; count = high₀; code = code .width; entry = entry }) (held (seen line rec) field) low high
+field-part-requires : tie.Need-field-part-requires
+field-part-requires c κs = search needs
 
-abbrev μ-loop : tie.MeasureT-loop
-μ-loop book rec line field start entry code low₀ high₀ low high = high - low
+find-value-requires : tie.Need-find-value-requires
+find-value-requires c κs = search needs
 
-loop-holds : tie.Need-loop-holds Inv-loop μ-loop
-loop-holds c = opened _ _ _
+returns : tie.Need-returns
+returns c = search (needs, found-part, held-length)
 
-sub-middle : tie.Need-sub-middle Inv-loop μ-loop
-sub-middle c = search needs
+array-borrow-prefix-copy : tie.Need-array-borrow-prefix-copy
+array-borrow-prefix-copy c = search needs
 
-add-middle : tie.Need-add-middle Inv-loop μ-loop
-add-middle c = search needs
+slice-aggregate-value : tie.Need-slice-aggregate-value
+slice-aggregate-value c = sym (length-take-le _ _ (search needs))
 
-mul-at : tie.Need-mul-at Inv-loop μ-loop
-mul-at c = let room = fits _ _ _ _ _ (c .before .loop .inv) (c .loop-test .taken) in search needs
+copy-field-requires : tie.Need-copy-field-requires
+copy-field-requires c κs = (search needs, length-take-le _ _ (search needs))
 
-add-at : tie.Need-add-at Inv-loop μ-loop
-add-at c = let room = fits _ _ _ _ _ (c .before .loop .inv) (c .loop-test .taken) in search needs
+find-value-requires-2 : tie.Need-find-value-requires-2
+find-value-requires-2 c κs = search needs
 
-add-end : tie.Need-add-end Inv-loop μ-loop
-add-end c = let room = fits _ _ _ _ _ (c .before .loop .inv) (c .loop-test .taken) in search needs
-
-sub-fields-order : tie.Need-sub-fields-order Inv-loop μ-loop
-sub-fields-order c = search needs
-
-part-fields-order-start : tie.Need-part-fields-order-start Inv-loop μ-loop
-part-fields-order-start c = search needs
-
-part-fields-order-end : tie.Need-part-fields-order-end Inv-loop μ-loop
-part-fields-order-end c = let room = fits _ _ _ _ _ (c .before .loop .inv) (c .loop-test .taken) in search needs
-
-fields-order-requires : tie.Need-fields-order-requires Inv-loop μ-loop
-fields-order-requires c κs = (readable _ _ _ _ _ (c .before .before .loop .inv) (search needs) (search needs), search needs)
-
-enum-told : tie.Need-enum-told Inv-loop μ-loop
-enum-told c = search needs
-
-add-low : tie.Need-add-low Inv-loop μ-loop
-add-low c = search needs
-
-loop-less : tie.Need-loop-less Inv-loop μ-loop
-loop-less c = search needs
-
-loop-again : tie.Need-loop-again Inv-loop μ-loop
-loop-again c = search sought-raised
-
-enum-told-2 : tie.Need-enum-told-2 Inv-loop μ-loop
-enum-told-2 c = search needs
-
-loop-less-2 : tie.Need-loop-less-2 Inv-loop μ-loop
-loop-less-2 c = search needs
-
--- by hand: a search loses itself between the old bracket and the new
-loop-again-2 : tie.Need-loop-again-2 Inv-loop μ-loop
-loop-again-2 c = sought-lowered _ _ _ _ _ (c .before .before .before .before .before .loop .inv) (search needs) _ (search needs) (c .before .before .fields-order .ensures) (search needs)
-
-enum-told-3 : tie.Need-enum-told-3 Inv-loop μ-loop
-enum-told-3 c = search needs
-
-sub-result : tie.Need-sub-result Inv-loop μ-loop
-sub-result c = search needs
-
-part-result-start : tie.Need-part-result-start Inv-loop μ-loop
-part-result-start c = search needs
-
-part-result-end : tie.Need-part-result-end Inv-loop μ-loop
-part-result-end c = let room = fits _ _ _ _ _ (c .before .before .before .before .before .loop .inv) (c .before .before .before .before .loop-test .taken) in search needs
-
-returns : tie.Need-returns Inv-loop μ-loop
-returns c = search hit
-
-sub-result-2 : tie.Need-sub-result-2 Inv-loop μ-loop
-sub-result-2 c = search needs
-
-part-result-start-2 : tie.Need-part-result-start-2 Inv-loop μ-loop
-part-result-start-2 c = search needs
-
-part-result-end-2 : tie.Need-part-result-end-2 Inv-loop μ-loop
-part-result-end-2 c = search needs
-
-returns-2 : tie.Need-returns-2 Inv-loop μ-loop
-returns-2 c = search missed
+returns-2 : tie.Need-returns-2
+returns-2 c = search (needs, found-copy)
 
 pub find-spec : {M : Type 1} → statement M
 find-spec =
     tie.close
     (tie.spec
-    Inv-loop
-    μ-loop
-    loop-holds
-    sub-middle
-    add-middle
-    mul-at
-    add-at
-    add-end
-    sub-fields-order
-    part-fields-order-start
-    part-fields-order-end
-    fields-order-requires
-    enum-told
-    add-low
-    loop-less
-    loop-again
-    enum-told-2
-    loop-less-2
-    loop-again-2
-    enum-told-3
-    sub-result
-    part-result-start
-    part-result-end
+    field-part-requires
+    find-value-requires
     returns
-    sub-result-2
-    part-result-start-2
-    part-result-end-2
+    array-borrow-prefix-copy
+    slice-aggregate-value
+    copy-field-requires
+    find-value-requires-2
     returns-2)

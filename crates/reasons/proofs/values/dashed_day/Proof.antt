@@ -3,6 +3,7 @@ use Rattle.reasons.proofs.values.dashed_day.Statement.{statement}
 use Rattle.reasons.proofs.values.dashed_day.Tie as tie
 use Rattle.reasons.specs.Reasons.{dashedDay}
 use Rattle.record.proofs.Chain.{chain, reads}
+use Rattle.reasons.proofs.Laws.{dashed-told}
 
 field-blank-requires : tie.Need-field-blank-requires
 field-blank-requires c κs = search needs
@@ -16,11 +17,11 @@ date-ccyy-mm-dd-requires c κs = search needs
 
 returns-2 : tie.Need-returns-2
 unfolding dashedDay
-returns-2 c = search (needs, chain, reads)
+returns-2 c = search (needs, chain, reads, dashed-told)
 
 returns-3 : tie.Need-returns-3
 unfolding dashedDay
-returns-3 c = search (needs, chain, reads)
+returns-3 c = search (needs, chain, reads, dashed-told)
 
 pub dashed-day-spec : {M : Type 1} → statement M
 dashed-day-spec =

@@ -11,8 +11,8 @@ returns : tie.Need-returns
 unfolding unbroken
 returns c = search (needs, chain, reads)
 
-is-unbroken-requires : tie.Need-is-unbroken-requires
-is-unbroken-requires c κs = search needs
+field-solid-requires : tie.Need-field-solid-requires
+field-solid-requires c κs = search needs
 
 returns-2 : tie.Need-returns-2
 unfolding unbroken
@@ -24,4 +24,4 @@ returns-3 c = search (needs, chain, reads)
 
 pub unbroken-spec : {M : Type 1} → statement M
 unbroken-spec =
-    tie.close (tie.spec field-blank-requires returns is-unbroken-requires returns-2 returns-3)
+    tie.close (tie.spec field-blank-requires returns field-solid-requires returns-2 returns-3)

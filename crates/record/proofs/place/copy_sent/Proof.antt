@@ -3,6 +3,7 @@ use mathlib.Core.Path.{_≡_}
 use lib.ListN.{length}
 use Rattle.record.specs.Place.{sent}
 use Rattle.record.proofs.Copies.{Copied, copied-none, copied-next, copied-all}
+use Rattle.record.proofs.Sent.{sent-length}
 use borrow.Author.Needs.{needs}
 use Rattle.record.proofs.place.copy_sent.Statement.{statement}
 use Rattle.record.proofs.place.copy_sent.Tie as tie
@@ -29,13 +30,13 @@ loop-less : tie.Need-loop-less Inv-loop μ-loop
 loop-less c = search needs
 
 loop-again : tie.Need-loop-again Inv-loop μ-loop
-loop-again c = search (needs, copied-next)
+loop-again c = search (needs, copied-next, sent-length)
 
 same-length : tie.Need-same-length Inv-loop μ-loop
 same-length c = search needs
 
 returns : tie.Need-returns Inv-loop μ-loop
-returns c = search (needs, copied-all)
+returns c = search (needs, copied-all, sent-length)
 
 pub copy-sent-spec : {M : Type 1} → statement M
 copy-sent-spec =

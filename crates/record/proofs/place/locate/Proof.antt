@@ -1,5 +1,5 @@
 use Rattle.record.specs.Place.{Within, value}
-use Rattle.record.proofs.Held.{held-shown}
+use Rattle.record.proofs.Held.{written-shown}
 use borrow.Author.Needs.{needs}
 use Rattle.record.proofs.place.locate.Statement.{statement}
 use Rattle.record.proofs.place.locate.Tie as tie
@@ -9,7 +9,7 @@ sub-t4 c = search needs
 
 returns : tie.Need-returns
 unfolding Within value
-returns c = search (needs, held-shown)
+returns c = search (needs, written-shown)
 
 pub locate-spec : {M : Type 1} → statement M
 locate-spec = tie.close (tie.spec sub-t4 returns)

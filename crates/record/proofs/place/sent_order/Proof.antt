@@ -1,8 +1,8 @@
 use borrow.Author.Needs.{needs}
 use Prim.Native.Nat.{_≤_, _-_}
 use Rattle.record.specs.Place.{sent}
-use Rattle.record.proofs.Orders.{Level, level-none, level-before, level-after, level-next, end-before, end-after, end-same}
-use Rattle.record.proofs.Sent.{within-plain}
+use Rattle.record.proofs.Orders.{Level, level-none, level-before, level-after, end-before, end-after, end-same}
+use Rattle.record.proofs.Sent.{sent-length, sent-level}
 use Rattle.record.proofs.place.sent_order.Statement.{statement}
 use Rattle.record.proofs.place.sent_order.Tie as tie
 
@@ -25,10 +25,10 @@ sent-byte-requires-2 : tie.Need-sent-byte-requires-2 Inv-loop μ-loop
 sent-byte-requires-2 c κs = search needs
 
 returns : tie.Need-returns Inv-loop μ-loop
-returns c = search (needs, level-before, within-plain)
+returns c = search (needs, level-before, sent-length)
 
 returns-2 : tie.Need-returns-2 Inv-loop μ-loop
-returns-2 c = search (needs, level-after, within-plain)
+returns-2 c = search (needs, level-after, sent-length)
 
 add-i : tie.Need-add-i Inv-loop μ-loop
 add-i c = search needs
@@ -37,16 +37,16 @@ loop-less : tie.Need-loop-less Inv-loop μ-loop
 loop-less c = search needs
 
 loop-again : tie.Need-loop-again Inv-loop μ-loop
-loop-again c = search (needs, level-next, within-plain)
+loop-again c = search (needs, sent-level)
 
 returns-3 : tie.Need-returns-3 Inv-loop μ-loop
-returns-3 c = search (needs, end-before, within-plain)
+returns-3 c = search (needs, end-before, sent-length)
 
 returns-4 : tie.Need-returns-4 Inv-loop μ-loop
-returns-4 c = search (needs, end-after, within-plain)
+returns-4 c = search (needs, end-after, sent-length)
 
 returns-5 : tie.Need-returns-5 Inv-loop μ-loop
-returns-5 c = search (needs, end-same, within-plain)
+returns-5 c = search (needs, end-same, sent-length)
 
 pub sent-order-spec : {M : Type 1} → statement M
 sent-order-spec =

@@ -1,6 +1,5 @@
 use Rattle.record.specs.Routing.{routing}
 use Rattle.record.proofs.Chain.{and-no, told}
-use Rattle.record.proofs.Every.{digits-part}
 use Rattle.record.proofs.Prefix.{routing-read}
 use borrow.Author.Needs.{needs}
 use Rattle.record.proofs.routing.field_routing.Statement.{statement}
@@ -10,7 +9,7 @@ field-digits-requires : tie.Need-field-digits-requires
 field-digits-requires c κs = search needs
 
 part-number-requires : tie.Need-part-number-requires
-part-number-requires c κs = search (needs, digits-part)
+part-number-requires c κs = search (needs, told)
 
 prefix-listed-requires : tie.Need-prefix-listed-requires
 prefix-listed-requires c κs = search needs
