@@ -4,12 +4,11 @@ use mathlib.Core.Path.{_≡_, refl, sym, ap, _∙_}
 use mathlib.Core.Bool.{Bool, true, false, true≢false}
 use mathlib.Core.List.{List, [], _∷_, _++_}
 use Prim.Native.Nat.{ℕ, _+_, _-_, _*_, _<_, _≤_}
-use native.Mathlib.Numerals.{add-one}
 use native.Mathlib.Omega.{arith}
 use lib.Dec.{eqb, leb, ltb}
 use borrow.Author.Tests.{lt-leb, le-leb, lt-ltb, le-ltb, eq-eqb, ne-eqb, eqb-true, eqb-false}
-use lib.ListN.{length, drop, getD, replicate, drop-of-length-le, length-append, length-replicate, List·getD-append, getD-replicate}
-use lib.Seq.{drop-cons, getD-append-add}
+use lib.ListN.{length, getD, replicate, length-append, length-replicate, List·getD-append, getD-replicate}
+use lib.Seq.{getD-append-add}
 use Rattle.page.specs.CodePage.{shown}
 use Rattle.record.specs.declared.Field.{Field}
 use Rattle.record.specs.declared.Justification.the-variants.{Fixed}
@@ -179,35 +178,6 @@ module _ (f x : Finding) where
   pub note-new : f .reason ≡ 0 → (x .reason ≡ 0 → ⊥) → x ≡ noted f x
   unfolding noted choose
   note-new h k = rw (eq-eqb (f .reason) 0 h, ne-eqb (x .reason) 0 k)
-
--- a test of every byte, from the front: what is left decides
-unfoldable pub Left : (ℕ → Bool) → List ℕ → ℕ → Type 0
-Left q xs i = every q xs ≡ every q (drop i xs)
-
-pub left-none : (q : ℕ → Bool) (xs : List ℕ) → Left q xs 0
-unfolding Left
-left-none q xs = refl
-
-module _ (q : ℕ → Bool) (xs : List ℕ) (i n x : ℕ) (k : length xs ≡ n) (h : i < n) (e : x ≡ getD xs i 0) (l : Left q xs i) where
-  pub left-next : q x ≡ true → Left q xs (i + 1)
-  unfolding Left every _and_
-  left-next t =
-      let b : i < length xs = omega arith in
-      let u : q (getD xs i 0) ≡ true = cc in
-      l ∙ rw (add-one, drop-cons xs i 0 b, u)
-
-  pub left-stop : q x ≡ false → false ≡ every q xs
-  unfolding Left every _and_
-  left-stop t =
-      let b : i < length xs = omega arith in
-      let u : q (getD xs i 0) ≡ false = cc in
-      sym (l ∙ rw (drop-cons xs i 0 b, u))
-
-pub left-end : (q : ℕ → Bool) (xs : List ℕ) (i n : ℕ) → length xs ≡ n → n ≤ i → Left q xs i → true ≡ every q xs
-unfolding Left every
-left-end q xs i n k h l =
-    let b : length xs ≤ i = omega arith in
-    sym (l ∙ rw (drop-of-length-le xs b))
 
 -- the bytes of a symbol, a serial number and blanks
 module _ (xs ys : List ℕ) (n i : ℕ) (h : length xs ≡ 4) (k : length ys ≡ 8) where

@@ -13,7 +13,6 @@ use lib.ListN.{length, take, drop, getD, length-take, length-drop, drop-of-lengt
 use lib.Seq.{drop-cons, getD-drop, getD-take, slice, slice-cons, slice-empty, take-all}
 use Rattle.record.specs.declared.place.Place.{Place}
 use Rattle.record.specs.Choice.{_and_}
-use Rattle.page.specs.CodePage.{ebcdic}
 use Rattle.record.specs.Place.{Within, value}
 use Rattle.record.specs.Tests.{every, digit, digits, valid, leastFrom}
 use Rattle.record.proofs.Chain.{and-left, and-right, and-true}
@@ -31,9 +30,6 @@ value-at rec p i w h =
     shown-at (p .ascii) (take (p .width) (drop (p .start) rec)) i n ∙ rw (getD-take, getD-drop)
 
 module _ (rec : List ℕ) (p : Place) (i : ℕ) (w : Within rec p) (h : i < p .width) where
-  pub value-translated : (r : ℕ) → p .ascii ≡ true → r ≡ ebcdic (getD rec (p .start + i) 0) → r ≡ getD (value rec p) i 0
-  value-translated r a e = e ∙ sym (value-at rec p i w h ∙ rw a)
-
   pub value-plain : p .ascii ≡ false → getD rec (p .start + i) 0 ≡ getD (value rec p) i 0
   value-plain a = sym (value-at rec p i w h ∙ rw a)
 
@@ -110,14 +106,6 @@ digits-part from to xs r e h = every-slice digit from to xs (sym e ∙ h)
 pub digits-halves : (xs : List ℕ) → digits (take 10 xs) ≡ true → digits (drop 10 xs) ≡ true → digits xs ≡ true
 unfolding digits
 digits-halves xs e h = ap (every digit) (sym (take-append-drop 10 xs)) ∙ every-both digit (take 10 xs) (drop 10 xs) e h
-
-pub digit-low : (x : ℕ) → x < 0xF0 → digit x ≡ false
-unfolding digit _and_
-digit-low x h = rw (lt-leb 0xF0 x)
-
-pub digit-high : (x : ℕ) → 0xF9 < x → digit x ≡ false
-unfolding digit _and_
-digit-high x h = rw (le-leb 0xF0 x (omega arith), lt-leb x 0xF9)
 
 pub digit-in : (x : ℕ) → 0xF0 ≤ x → x ≤ 0xF9 → digit x ≡ true
 unfolding digit _and_

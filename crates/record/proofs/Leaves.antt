@@ -3,9 +3,8 @@
 use mathlib.Core.Path.{_≡_, refl, sym, ap, _∙_}
 use mathlib.Core.Bool.{Bool, true, false}
 use mathlib.Core.List.{List}
-use Prim.Native.Nat.{ℕ, _-_, _≤_}
+use Prim.Native.Nat.{ℕ, _-_}
 use native.Mathlib.Omega.{arith}
-use lib.ListN.{length}
 use lib.Seq.{slice, take-all}
 use Rattle.page.specs.CodePage.{shown}
 use Rattle.record.specs.declared.Field.{Field}
@@ -20,7 +19,7 @@ use Rattle.record.specs.Correction.{corrected}
 use Rattle.record.specs.Moved.{inPlace, readable, testOf}
 use Rattle.record.specs.Numeral.{numeral}
 use Rattle.record.specs.Ordering.{order}
-use Rattle.record.specs.Place.{Within, value, sent, PlaceOf}
+use Rattle.record.specs.Place.{value, sent, PlaceOf}
 use Rattle.record.specs.Tests.{every, only, zeros, digits, solid, alike}
 use Rattle.record.specs.Value.{Has, seen, written, held}
 use Rattle.record.proofs.Chain.{and-left, and-right}

@@ -228,13 +228,6 @@ byte-told rec p i s b a w r k l t e f h = h ∙ go (p .ascii) refl ∙ ap (λ (x
     go true q = let v : w ≡ a = rw q at e in rw (q, v) (sym (twin-byte a b [] [] t s))
     go false q = let v : w ≡ b = rw q at e in rw (q, v)
 
--- two bytes of ASCII that were sent alike
-pub byte-same : (rec : List ℕ) (p : Place) (other : List ℕ) (q : Place) (i s t : ℕ) → Within rec p → Within other q → i < p .width → i < q .width → p .ascii ≡ true → q .ascii ≡ true
-    → s ≡ getD (sent rec p) i 0 → t ≡ getD (sent other q) i 0 → s ≡ t → true ≡ eqb (getD (value rec p) i 0) (getD (value other q) i 0)
-byte-same rec p other q i s t w v k l a b e f h =
-    let g : shownByte (p .ascii) s ≡ shownByte (q .ascii) t = rw (a, b, h) in
-    sym (eq-eqb (getD (value rec p) i 0) (getD (value other q) i 0) (seen-byte rec p i s w k e ∙ g ∙ sym (seen-byte other q i t v l f)))
-
 -- the byte rule of ASCII
 unfoldable pub LowPrintable : List ℕ → ℕ → ℕ → Type 0
 LowPrintable xs i low = leastPrintable 0xFF xs ≡ leastPrintable low (drop i xs)
@@ -310,22 +303,6 @@ text-sent rec p text ascii w r t e h = go (p .ascii) refl
     go false q =
         let v : w ≡ text = rw q at e in
         h ∙ rw (v, plain-sent rec p q)
-
--- two values, neither of which is ASCII
-neither : (a b : Bool) → (a or b) ≡ false → (a ≡ false) × (b ≡ false)
-unfolding _or_
-neither true b e = absurd (true≢false e)
-neither false b e = (refl, e)
-
-module _ (rec : List ℕ) (p : Place) (other : List ℕ) (q : Place) (t : Bool) (e : t ≡ (p .ascii or q .ascii)) (f : t ≡ false) where
-  as-sent : (value rec p ≡ sent rec p) × (value other q ≡ sent other q)
-  as-sent = let n = neither (p .ascii) (q .ascii) (sym e ∙ f) in (plain-sent rec p (n .0), plain-sent other q (n .1))
-
-  pub order-sent : (r : Order) → r ≡ order (sent rec p) (sent other q) → r ≡ order (value rec p) (value other q)
-  order-sent r h = h ∙ rw (as-sent .0, as-sent .1)
-
-  pub same-sent : (r : Bool) → r ≡ alike (sent rec p) (sent other q) → r ≡ alike (value rec p) (value other q)
-  same-sent r h = h ∙ rw (as-sent .0, as-sent .1)
 
 -- what their order says of their being the same
 pub order-alike : (xs ys : List ℕ) (r : Order) → r ≡ order xs ys → r ≡ Same → true ≡ alike xs ys

@@ -1,4 +1,3 @@
-use mathlib.Core.Path.{_∙_, sym}
 use Rattle.record.proofs.Leaves.{digits-held, number-stands, digits-moved, number-moved, number-whole}
 use borrow.Author.Needs.{needs}
 use Rattle.record.proofs.field_number.Statement.{statement}
