@@ -78,6 +78,9 @@ fn first_serial(rec: &[u8], line: Line) -> u64
     requires { ⌜ length (now rec) ≡ 850 ⌝ }
     ensures { λ r. ⌜ r ≡ firstSerial (seen line (now (rec .entry))) ⌝ }
 {
+    if record::field_blank(rec, line, CHECK_FIRST_SERIAL_NUMBER) {
+        return 0;
+    }
     if record::field_digits(rec, line, CHECK_FIRST_SERIAL_NUMBER) {
         return record::field_number(rec, line, CHECK_FIRST_SERIAL_NUMBER);
     }

@@ -148,16 +148,23 @@ module _ (book : List ℕ) (s : Section) (x : List ℕ) (low high : ℕ) (b : So
       pub sought-lowered : r ≡ After → Sought book s x low (middle low high)
       sought-lowered t = lowered (keyAt book s) (s .count) x up (middle low high) low high b (omega arith) (omega arith) (sym known ∙ t)
 
--- a part of the record as long as the field is what the field holds: the empty part is as long only where nothing is held
-part-held : (v part : List ℕ) (t : Bool) → part ≡ choose t [] v → length part ≡ length v → part ≡ v
-unfolding choose
-part-held v part false e h = e
-part-held [] part true e h = e
-part-held (x ∷ v) part true e h = absurd (omega (arith, h, ap length e))
+-- a part of the record that is empty or what the field holds, or else a copy of that
+module _ (a b r : List ℕ) where
+  pub part-none : (part : List ℕ) → length part ≡ 0 → r ≡ a → r ≡ choose (isNone part) a b
+  unfolding isNone choose
+  part-none [] h e = e
+  part-none (x ∷ part) h e = absurd (omega arith)
 
-pub found-part : (width : ℕ) (es : List (List ℕ)) (v part r : List ℕ) (t : Bool) (n : ℕ) → part ≡ choose t [] v → length v ≡ n → length part ≡ n
-    → r ≡ entryFor width es part → r ≡ entryFor width es v
-found-part width es v part r t n e l h q = q ∙ ap (entryFor width es) (part-held v part t e (h ∙ sym l))
+  pub part-some : (part : List ℕ) → (length part ≡ 0 → ⊥) → r ≡ b → r ≡ choose (isNone part) a b
+  unfolding isNone choose
+  part-some [] h e = absurd (h refl)
+  part-some (x ∷ part) h e = e
+
+pub either-held : (v part own copy value : List ℕ) (t : Bool) → part ≡ choose t [] v → copy ≡ choose (isNone part) v own → value ≡ choose (isNone part) copy part → value ≡ v
+unfolding isNone choose
+either-held v [] own copy value t e f h = h ∙ f
+either-held v (x ∷ part) own copy value false e f h = h ∙ e
+either-held v (x ∷ part) own copy value true e f h = absurd (omega (arith, ap length e))
 
 -- a copy of what the field holds
 pub found-copy : (width : ℕ) (es : List (List ℕ)) (v copy r : List ℕ) → copy ≡ v → r ≡ entryFor width es copy → r ≡ entryFor width es v

@@ -7,8 +7,10 @@ use record::Line;
 use record::Order;
 ghost use mathlib.Core.Path.{_≡_};
 ghost use Prim.Native.Nat.{_≤_};
+ghost use lib.ListN.{length};
 ghost use Rattle.record.specs.Value.{Has, seen, held};
-ghost use Rattle.book.specs.Book.{Shelved, entriesAt, entryFor, flagOf, listing, said};
+ghost use Rattle.record.specs.Choice.{choose};
+ghost use Rattle.book.specs.Book.{Shelved, entriesAt, entryFor, flagOf, isNone, listing, said};
 
 // What the book says of a code: whether it is listed, and whether its entry is flagged, a CARS Reporter in kind 2, a credit in kind 3.
 pub struct Listing {
@@ -49,6 +51,26 @@ fn find_value<'a>(book: &'a [u8], section: Section, value: &[u8]) -> &'a [u8]
     &book[0..0]
 }
 
+// Copies what the field holds where the part is empty.
+fn copy_unless(part: &[u8], rec: &[u8], line: Line, field: Field, copy: &mut [u8])
+    requires { ⌜ Has (now rec) field × (length (now copy) ≡ field .width) ⌝ }
+    ensures { λ r. ⌜ now (copy .exit) ≡ choose (isNone (now (part .entry))) (held (seen line (now (rec .entry))) field) (now (copy .entry)) ⌝ }
+{
+    if part.len() == 0 {
+        record::copy_field(rec, line, field, copy);
+    }
+}
+
+// The part, or the copy where the part is empty.
+fn part_or<'a>(part: &'a [u8], copy: &'a [u8]) -> &'a [u8]
+    ensures { λ r. ⌜ now r ≡ choose (isNone (now (part .entry))) (now (copy .entry)) (now (part .entry)) ⌝ }
+{
+    if part.len() == 0 {
+        return copy;
+    }
+    part
+}
+
 // The entry whose code the field holds, or an empty part where there is none. A code that has to be translated or moved is copied first, so that
 // this is done once and not for each entry it is compared with.
 pub fn find<'a>(book: &'a [u8], section: Section, rec: &[u8], line: Line, field: Field) -> &'a [u8]
@@ -57,13 +79,10 @@ pub fn find<'a>(book: &'a [u8], section: Section, rec: &[u8], line: Line, field:
 {
     let width = field.width;
     let part = record::field_part(rec, line, field);
-    if part.len() == width {
-        return find_value(book, section, part);
-    }
     let mut copy = [0u8; 40];
-    let value = &mut copy[..width];
-    record::copy_field(rec, line, field, value);
-    find_value(book, section, value)
+    let own = &mut copy[..width];
+    copy_unless(part, rec, line, field, own);
+    find_value(book, section, part_or(part, own))
 }
 
 // The flag of the entry that was handed back: a CARS Reporter in kind 2, a credit in kind 3.

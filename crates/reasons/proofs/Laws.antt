@@ -17,7 +17,7 @@ use Rattle.record.specs.Tests.{every, only, blank, zeros, digit, digits, alike}
 use Rattle.record.specs.Numeral.{numeral, numeralFrom}
 use Rattle.record.specs.Routing.{routing}
 use Rattle.record.specs.Value.{Has, written, held}
-use Rattle.record.proofs.Held.{held-length, held-fixed}
+use Rattle.record.proofs.Held.{held-length, held-fixed, filled-digits}
 use Rattle.calendar.specs.Calendar.{dashedDate, plainDate}
 use Rattle.record.proofs.Chain.{and-left, and-right}
 use Rattle.record.proofs.Every.{digit-range}
@@ -26,9 +26,7 @@ use Rattle.money.specs.Money.{worth, split, cents, Whole}
 use Rattle.money.proofs.Amounts.{worth-split}
 use Rattle.reasons.specs.declared.Finding.{Finding}
 use Rattle.reasons.specs.Findings.{noted}
-use Rattle.reasons.specs.declared.lists.Listed.{Listed}
-use Rattle.reasons.specs.declared.lists.Listed.the-variants.{BusinessFunctions, EntryClasses, TransactionCodes, PayerMechanisms}
-use Rattle.reasons.specs.Lists.{oneOf, businessFunctions, entryClasses, transactionCodes, payerMechanisms, valuesOf}
+use Rattle.reasons.specs.Lists.{oneOf}
 use Rattle.reasons.specs.Reasons.{symbolAndSerial}
 
 -- a value in a list of values
@@ -52,24 +50,6 @@ pub one-rest : (x : List ℕ) (xs : List (List ℕ)) (v : List ℕ) (r : Bool) �
 unfolding oneOf _or_
 one-rest x xs v r e h = rw e h
 
--- one of a list that is told by its name
-module _ (l : Listed) (v : List ℕ) (r : Bool) where
-  pub business-functions : l ≡ BusinessFunctions → r ≡ oneOf businessFunctions v → r ≡ oneOf (valuesOf l) v
-  unfolding valuesOf
-  business-functions o e = rw o e
-
-  pub entry-classes : l ≡ EntryClasses → r ≡ oneOf entryClasses v → r ≡ oneOf (valuesOf l) v
-  unfolding valuesOf
-  entry-classes o e = rw o e
-
-  pub transaction-codes : l ≡ TransactionCodes → r ≡ oneOf transactionCodes v → r ≡ oneOf (valuesOf l) v
-  unfolding valuesOf
-  transaction-codes o e = rw o e
-
-  pub payer-mechanisms : l ≡ PayerMechanisms → r ≡ oneOf payerMechanisms v → r ≡ oneOf (valuesOf l) v
-  unfolding valuesOf
-  payer-mechanisms o e = rw o e
-
 pub ruleset ones = (one-here, one-later, one-none, one-empty)
 
 -- a date, as it stands
@@ -81,11 +61,6 @@ module _ (rec : List ℕ) (f : Field) (j : f .justification ≡ Fixed) (r u : Bo
   plain-told e = ap plainDate (held-fixed rec f j) ∙ sym e ∙ t
 
 -- a routing number is digits, and not blank
-filled-digits : (xs : List ℕ) → 1 ≤ length xs → digits xs ≡ true → blank xs ≡ false
-unfolding digits only every _and_
-filled-digits [] h e = absurd (omega arith)
-filled-digits (x ∷ xs) h e = ap (λ (b : Bool). b and only 0x40 xs) (ne-eqb x 0x40 (λ q. absurd (omega (arith, q, digit-range x (and-left (digit x) (digits xs) e)))))
-
 module _ (ascii : Bool) (rec : List ℕ) (f : Field) (h : Has rec f) (w : 2 ≤ f .width) (r : Bool) (e : r ≡ routing (held (shown ascii rec) f)) where
   pub routing-blank : r ≡ true → blank (held (shown ascii rec) f) ≡ false
   unfolding routing

@@ -2,8 +2,6 @@
 use Prim.Native.Nat.{ℕ}
 use mathlib.Core.Bool.{Bool, false}
 use mathlib.Core.List.{List, [], _∷_}
-use Rattle.reasons.specs.declared.lists.Listed.{Listed}
-use Rattle.reasons.specs.declared.lists.Listed.the-variants.{BusinessFunctions, EntryClasses, TransactionCodes, PayerMechanisms}
 use Rattle.record.specs.Choice.{_or_}
 use Rattle.record.specs.Tests.{alike}
 
@@ -59,10 +57,3 @@ entryClasses =
     ∷ (0xC9 ∷ 0xC1 ∷ 0xE3 ∷ [])
     ∷ (0xC3 ∷ 0xE3 ∷ 0xE7 ∷ [])
     ∷ []
-
--- the lists that have more than two values
-unfoldable pub valuesOf : Listed → List (List ℕ)
-valuesOf BusinessFunctions = businessFunctions
-valuesOf EntryClasses = entryClasses
-valuesOf TransactionCodes = transactionCodes
-valuesOf PayerMechanisms = payerMechanisms

@@ -5,7 +5,7 @@ use record::Field;
 use record::Line;
 ghost use mathlib.Core.Path.{_≡_};
 ghost use Rattle.record.specs.Value.{Has, seen, held};
-ghost use Rattle.reasons.specs.Lists.{voucherForms, courtesyChecks, voidedChecks, drawings, businessFunctions, transactionCodes, payerMechanisms, entryClasses, oneOf, valuesOf};
+ghost use Rattle.reasons.specs.Lists.{voucherForms, courtesyChecks, voidedChecks, drawings, businessFunctions, transactionCodes, payerMechanisms, entryClasses, oneOf};
 ghost use Rattle.reasons.specs.Reasons.{listed, ifListed, ifCoded};
 
 // 5515, or 215 and a blank (field 10).
@@ -93,49 +93,6 @@ fn is_business_function(rec: &[u8], line: Line, field: Field) -> bool
     is_drawing(rec, line, field)
 }
 
-// The lists of document 01 that have more than two values.
-enum Listed {
-    BusinessFunctions,
-    EntryClasses,
-    TransactionCodes,
-    PayerMechanisms,
-}
-
-// One of the list: one function for all of them, so that the rules of a detail, which are part of the loop over a batch, stay small.
-fn is_one_of(list: Listed, rec: &[u8], line: Line, field: Field) -> bool
-    requires { ⌜ Has (now rec) field ⌝ }
-    ensures { λ r. ⌜ r ≡ oneOf (valuesOf list) (held (seen line (now (rec .entry))) field) ⌝ }
-{
-    match list {
-        Listed::BusinessFunctions => is_business_function(rec, line, field),
-        Listed::EntryClasses => is_entry_class(rec, line, field),
-        Listed::TransactionCodes => is_transaction_code(rec, line, field),
-        Listed::PayerMechanisms => is_payer_mechanism(rec, line, field),
-    }
-}
-
-// The same of what is lent anew, so that nothing is kept on the stack before it is asked.
-fn is_listed(list: Listed, rec: &[u8], line: Line, field: Field) -> bool
-    requires { ⌜ Has (now rec) field ⌝ }
-    ensures { λ r. ⌜ r ≡ oneOf (valuesOf list) (held (seen line (now (rec .entry))) field) ⌝ }
-{
-    let number = line.number;
-    let ascii = line.ascii;
-    let start = field.start;
-    let width = field.width;
-    let justification = field.justification;
-    is_one_of(
-        list,
-        &rec[..],
-        Line { number, ascii },
-        Field {
-            start,
-            width,
-            justification,
-        },
-    )
-}
-
 // A listed business function (field 44).
 pub fn business_function(rec: &[u8], line: Line, field: Field) -> usize
     requires { ⌜ Has (now rec) field ⌝ }
@@ -144,7 +101,7 @@ pub fn business_function(rec: &[u8], line: Line, field: Field) -> usize
     if record::field_blank(rec, line, field) {
         return BLANK;
     }
-    if is_listed(Listed::BusinessFunctions, rec, line, field) {
+    if is_business_function(rec, line, field) {
         return 0;
     }
     UNLISTED
@@ -178,7 +135,7 @@ pub fn entry_class(rec: &[u8], line: Line, field: Field) -> usize
     if record::field_blank(rec, line, field) {
         return BLANK;
     }
-    if is_listed(Listed::EntryClasses, rec, line, field) {
+    if is_entry_class(rec, line, field) {
         return 0;
     }
     UNLISTED
@@ -215,7 +172,7 @@ pub fn transaction_code(rec: &[u8], line: Line, field: Field) -> usize
     if record::field_zeros(rec, line, field) {
         return 0;
     }
-    if is_listed(Listed::TransactionCodes, rec, line, field) {
+    if is_transaction_code(rec, line, field) {
         return 0;
     }
     UNLISTED
@@ -264,7 +221,7 @@ pub fn payer_mechanism(rec: &[u8], line: Line, field: Field) -> usize
     if record::field_blank(rec, line, field) {
         return 0;
     }
-    if is_listed(Listed::PayerMechanisms, rec, line, field) {
+    if is_payer_mechanism(rec, line, field) {
         return 0;
     }
     UNLISTED

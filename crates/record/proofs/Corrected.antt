@@ -205,7 +205,7 @@ blank-first (x ∷ xs) e =
     let t : eqb x 0x40 ≡ true = and-left _ _ e in
     choice (eqb x 0x40) (λ l. l ≡ []) (fromFirst xs) (x ∷ xs) (λ t. blank-first xs (and-right _ _ e)) (λ f. absurd (true≢false (sym t ∙ f)))
 
-blank-all : (xs : List ℕ) → blank xs ≡ true → replicate (length xs) 0x40 ≡ xs
+pub blank-all : (xs : List ℕ) → blank xs ≡ true → replicate (length xs) 0x40 ≡ xs
 unfolding only every
 blank-all [] e = refl
 blank-all (x ∷ xs) e =

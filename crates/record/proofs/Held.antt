@@ -1,12 +1,12 @@
 -- The laws of `written` and `held` that crates above rest on.
 -- Assumes nothing.
 use mathlib.Core.Path.{_≡_, refl, _∙_, sym, ap}
-use mathlib.Core.Bool.{Bool, true, false, not}
-use mathlib.Core.List.{List, [], _++_}
-use Prim.Native.Nat.{ℕ, _+_, _-_}
+use mathlib.Core.Bool.{Bool, true, false, true≢false, not}
+use mathlib.Core.List.{List, [], _∷_, _++_}
+use Prim.Native.Nat.{ℕ, _+_, _-_, _≤_}
 use native.Mathlib.Omega.{arith}
-use borrow.Author.Tests.{not-true}
-use lib.ListN.{length, take, drop, length-take, length-drop}
+use borrow.Author.Tests.{not-true, ne-eqb}
+use lib.ListN.{length, take, drop, replicate, length-take, length-drop}
 use lib.Seq.{take-add, drop-drop}
 use Rattle.record.specs.declared.Field.{Field}
 use Rattle.record.specs.declared.Line.{Line}
@@ -16,11 +16,12 @@ use Rattle.record.specs.Choice.{_and_, choose}
 use Rattle.record.specs.Correction.{corrected}
 use Rattle.record.specs.Fields.{recordCode}
 use Rattle.record.specs.Moved.{inPlace, readable}
-use Rattle.record.specs.Tests.{alike, blank, digits}
+use Rattle.record.specs.Tests.{every, only, alike, blank, digit, digits}
 use Rattle.record.specs.Value.{Has, written, held}
 use Rattle.page.proofs.Shown.{shown-length, shown-take, shown-drop}
 use Rattle.record.proofs.Chain.{and-left, and-right, choose-yes, choose-no}
-use Rattle.record.proofs.Corrected.{corrected-length, corrected-stays, blank-corrected}
+use Rattle.record.proofs.Corrected.{corrected-length, corrected-stays, blank-corrected, blank-all}
+use Rattle.record.proofs.Every.{digit-range}
 use Rattle.record.proofs.Parts.{digits-stand}
 
 -- a field that the record has is as many bytes as it is wide, and so is what it holds
@@ -31,6 +32,24 @@ written-length ascii rec f h = simp (length-take, length-drop, shown-length) (om
 pub held-length : (ascii : Bool) (rec : List ℕ) (f : Field) → Has rec f → length (held (shown ascii rec) f) ≡ f .width
 unfolding held
 held-length ascii rec f h = corrected-length (f .justification) (written (shown ascii rec) f) ∙ written-length ascii rec f h
+
+-- digits are not blank
+pub filled-digits : (xs : List ℕ) → 1 ≤ length xs → digits xs ≡ true → blank xs ≡ false
+unfolding digits only every _and_
+filled-digits [] h e = absurd (omega arith)
+filled-digits (x ∷ xs) h e = ap (λ (b : Bool). b and only 0x40 xs) (ne-eqb x 0x40 (λ q. absurd (omega (arith, q, digit-range x (and-left (digit x) (digits xs) e)))))
+
+-- a blank field holds blanks, and no digits
+module _ (ascii : Bool) (rec : List ℕ) (f : Field) (h : Has rec f) (r : Bool) (e : r ≡ blank (held (shown ascii rec) f)) (t : r ≡ true) where
+  pub holds-blanks : replicate (f .width) 0x40 ≡ held (shown ascii rec) f
+  holds-blanks = ap (λ (n : ℕ). replicate n 0x40) (sym (held-length ascii rec f h)) ∙ blank-all (held (shown ascii rec) f) (sym e ∙ t)
+
+  pub holds-no-digits : 1 ≤ f .width → digits (held (shown ascii rec) f) ≡ false
+  holds-no-digits w = go (digits (held (shown ascii rec) f)) refl
+    where
+      go : (d : Bool) → digits (held (shown ascii rec) f) ≡ d → digits (held (shown ascii rec) f) ≡ false
+      go false q = q
+      go true q = absurd (true≢false (sym t ∙ e ∙ filled-digits _ (omega (arith, held-length ascii rec f h)) q))
 
 -- a field of a record as the rules see it: its own bytes as they see them
 pub written-shown : (ascii : Bool) (rec : List ℕ) (f : Field) → shown ascii (take (f .width) (drop (f .start - 1) rec)) ≡ written (shown ascii rec) f

@@ -151,16 +151,16 @@ module _ (xs ys : List ℕ) (i s n m : ℕ) (lx : length xs ≡ n) (ly : length 
         let q = ny in
         sym (l ∙ rw (drop-cons xs i 0, drop-cons ys i 0) (before _ _ _ _ (omega arith)))
 
-    pub level-after : y < x → Level xs ys i → After ≡ order xs ys
+    pub level-after : (x ≡ y → ⊥) → y ≤ x → Level xs ys i → After ≡ order xs ys
     unfolding Level
-    level-after k l =
+    level-after d k l =
         let p = nx in
         let q = ny in
         sym (l ∙ rw (drop-cons xs i 0, drop-cons ys i 0) (after _ _ _ _ (omega arith)))
 
-    pub level-next : x ≤ y → y ≤ x → Level xs ys i → Level xs ys (i + 1)
+    pub level-next : x ≡ y → Level xs ys i → Level xs ys (i + 1)
     unfolding Level
-    level-next k j l =
+    level-next k l =
         let p = nx in
         let q = ny in
         l ∙ rw (add-one, drop-cons xs i 0, drop-cons ys i 0) (level _ _ _ _ (omega arith) (omega arith))

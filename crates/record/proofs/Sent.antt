@@ -3,13 +3,13 @@
 use mathlib.Core.Path.{_≡_, refl, ap, sym, _∙_}
 use mathlib.Core.Bool.{Bool, true, false, true≢false, not, _&&_}
 use mathlib.Core.List.{List, [], _∷_, map}
-use Prim.Native.Nat.{ℕ, _+_, _-_, _%_, _≤_, _<_, min}
+use Prim.Native.Nat.{ℕ, suc, _+_, _-_, _%_, _≤_, _<_, min, max}
 use native.Mathlib.Numerals.{add-one}
 use native.Mathlib.Omega.{arith}
 use lib.Bits.{bitXor, xor-add-and, and-le-l, and-le-r}
 use lib.Dec.{leb, eqb}
 use lib.ListN.{length, take, drop, getD, drop-of-length-le}
-use lib.Seq.{drop-cons, slice, take-all}
+use lib.Seq.{drop-cons, slice, slice-cons, slice-empty, take-all}
 use borrow.Author.Tests.{lt-leb, le-leb, leb-true, leb-false, eq-eqb, ne-eqb}
 use Rattle.page.specs.CodePage.{codePage, ebcdic, shown, twins}
 use Rattle.page.proofs.CodePage.{below, below-each, digit-lands, digit-sent, twin-byte, twin-rest, valid-sent}
@@ -61,9 +61,9 @@ every-as q r e (x ∷ xs) = rw (e x, every-as q r e xs)
 
 -- one byte more is level
 pub sent-level : (rec : List ℕ) (p : Place) (other : List ℕ) (q : Place) (i s x y : ℕ) → Within rec p → Within other q → s ≡ min (p .width) (q .width) → i < s
-    → x ≡ getD (sent rec p) i 0 → y ≡ getD (sent other q) i 0 → x ≤ y → y ≤ x → Level (sent rec p) (sent other q) i → Level (sent rec p) (sent other q) (i + 1)
-sent-level rec p other q i s x y w v e h ex ey k j l =
-    level-next (sent rec p) (sent other q) i s (p .width) (q .width) (sent-length rec p w) (sent-length other q v) e x y h ex ey k j l
+    → x ≡ getD (sent rec p) i 0 → y ≡ getD (sent other q) i 0 → x ≡ y → Level (sent rec p) (sent other q) i → Level (sent rec p) (sent other q) (i + 1)
+sent-level rec p other q i s x y w v e h ex ey k l =
+    level-next (sent rec p) (sent other q) i s (p .width) (q .width) (sent-length rec p w) (sent-length other q v) e x y h ex ey k l
 
 -- the place of all bytes
 pub whole-of : (bytes : List ℕ) → WholeOf bytes (record { start = 0; width = length bytes; ascii = false })
@@ -104,13 +104,37 @@ pub solid-sent : (rec : List ℕ) (p : Place) (w : ℕ) (r : Bool) → w ≡ cho
 unfolding solid twins ebcdic codePage
 solid-sent rec p w r e h = tested-sent not rec p 0x40 0x20 w r refl e h
 
-pub near-far : (z x : ℕ) → 9 < bitXor x z → near z x ≡ false
-unfolding near
-near-far z x h = lt-leb (bitXor x z) 9 h
+-- the farthest byte so far and those from i on decide whether all are near a zero
+unfoldable pub Farthest : ℕ → List ℕ → ℕ → ℕ → ℕ → ℕ → Type 0
+Farthest z xs from to i most = every (near z) (slice from to xs) ≡ (leb most 9 and every (near z) (slice i to xs))
 
-pub near-by : (z x : ℕ) → bitXor x z ≤ 9 → near z x ≡ true
-unfolding near
-near-by z x h = le-leb (bitXor x z) 9 h
+pub farthest-none : (z : ℕ) (xs : List ℕ) (from to : ℕ) → Farthest z xs from to from 0
+unfolding Farthest _and_
+farthest-none z xs from to = refl
+
+below-max : (a x y : ℕ) → leb (max x y) a ≡ (leb x a and leb y a)
+unfolding _and_
+below-max a x y = go (leb x a) refl (leb y a) refl
+  where
+    go : (s : Bool) → leb x a ≡ s → (t : Bool) → leb y a ≡ t → leb (max x y) a ≡ (leb x a and leb y a)
+    go true e true f = rw (e, f) (le-leb (max x y) a (omega (arith, leb-true x a e, leb-true y a f)))
+    go true e false f = rw (e, f) (lt-leb (max x y) a (omega (arith, leb-false y a f)))
+    go false e t f = rw e (lt-leb (max x y) a (omega (arith, leb-false x a e)))
+
+pub farthest-next : (z : ℕ) (rec : List ℕ) (p : Place) (from to i most x r : ℕ) → Within rec p → i < to → to ≤ p .width → x ≡ getD (value rec p) i 0
+    → r ≡ max (bitXor x z) most → Farthest z (value rec p) from to i most → Farthest z (value rec p) from to (i + 1) r
+unfolding Farthest every near
+farthest-next z rec p from to i most x r w h k e t l =
+    let n : to ≤ length (value rec p) = omega (arith, value-length rec p w) in
+    l
+    ∙ rw (slice-cons i to (value rec p) 0, add-one, t, e, below-max 9 (bitXor (getD (value rec p) i 0) z) most)
+    (sym (and-swap (leb (bitXor (getD (value rec p) i 0) z) 9) (leb most 9) (every (near z) (slice (suc i) to (value rec p)))))
+
+pub farthest-end : (z : ℕ) (xs : List ℕ) (from to i most : ℕ) → i ≤ to → to ≤ i → Farthest z xs from to i most → leb most 9 ≡ every (near z) (slice from to xs)
+unfolding Farthest every
+farthest-end z xs from to i most h k l =
+    let n : i ≡ to = omega arith in
+    sym (l ∙ rw (n, slice-empty) (and-true (leb most 9)))
 
 -- digits: the bytes that differ from zero by at most 9
 agree : Bool → Bool → Bool

@@ -314,10 +314,10 @@ fn shown_order(rec: &[u8], moved: Moved, other: &[u8], there: Moved) -> Order
     while i < shared {
         let a = byte(rec, moved, i);
         let b = byte(other, there, i);
-        if a < b {
-            return Order::Before;
-        }
-        if b < a {
+        if a != b {
+            if a < b {
+                return Order::Before;
+            }
             return Order::After;
         }
         i += 1;

@@ -7,7 +7,7 @@ ghost use mathlib.Core.Path.{_≡_};
 ghost use mathlib.Core.Bool.{true, not};
 ghost use mathlib.Core.List.{[], _∷_};
 ghost use lib.Dec.{leb, eqb};
-ghost use Prim.Native.Nat.{ℕ, _-_, _<_, _≤_, min};
+ghost use Prim.Native.Nat.{ℕ, _-_, _<_, _≤_, min, max};
 ghost use lib.ListN.{length, getD};
 ghost use lib.Seq.{slice};
 ghost use Rattle.record.specs.Value.{Has};
@@ -151,19 +151,28 @@ pub(crate) fn is_solid(rec: &[u8], place: Place) -> bool
     has_none(rec, place, blank)
 }
 
-// The bytes that were sent from `from` up to `to` are near this zero.
+// The greater of two bytes.
+fn greater(a: u8, b: u8) -> u8
+    ensures { λ r. ⌜ r ≡ max a b ⌝ }
+{
+    if a < b {
+        return b;
+    }
+    a
+}
+
+// The bytes that were sent from `from` up to `to` are near this zero: a reduction with no early exit, which the compiler turns into vector code.
 fn are_near(rec: &[u8], place: Place, zero: u8, from: usize, to: usize) -> bool
     requires { ⌜ Within (now rec) place × (from ≤ to) × (to ≤ place .width) ⌝ }
     ensures { λ r. ⌜ r ≡ every (near zero) (slice from to (sent (now (rec .entry)) place)) ⌝ }
 {
+    let mut farthest: u8 = 0;
     let mut i = from;
     while i < to {
-        if 9 < sent_byte(rec, place, i) ^ zero {
-            return false;
-        }
+        farthest = greater(sent_byte(rec, place, i) ^ zero, farthest);
         i += 1;
     }
-    true
+    farthest <= 9
 }
 
 // The bytes from `from` up to `to` are digits: no byte is translated.
@@ -319,10 +328,10 @@ pub(crate) fn sent_order(rec: &[u8], place: Place, other: &[u8], there: Place) -
     while i < shared {
         let a = sent_byte(rec, place, i);
         let b = sent_byte(other, there, i);
-        if a < b {
-            return Order::Before;
-        }
-        if b < a {
+        if a != b {
+            if a < b {
+                return Order::Before;
+            }
             return Order::After;
         }
         i += 1;

@@ -3,10 +3,12 @@
 use mathlib.Core.Path.{_≡_, refl, sym, ap, _∙_}
 use mathlib.Core.Bool.{Bool, true, false, true≢false}
 use mathlib.Core.List.{List, [], _∷_, _++_}
-use Prim.Native.Nat.{ℕ, _+_, _≤_, _<_}
+use Prim.Native.Nat.{ℕ, suc, _+_, _≤_, _<_}
 use native.Mathlib.Numerals.{add-one}
 use native.Mathlib.Omega.{arith}
-use lib.ListN.{length, getD, drop-of-length-le}
+use lib.Dec.{ltb}
+use borrow.Author.Tests.{ltb-true, ltb-false}
+use lib.ListN.{length, drop, getD, drop-of-length-le}
 use lib.Seq.{drop-cons}
 use Rattle.record.specs.declared.Field.{Field}
 use Rattle.record.specs.declared.Order.{Order}
@@ -34,23 +36,21 @@ below x y xs ys h = rw (before x y xs ys h)
 -- what is left from i on decides
 module _ (xs ys : List ℕ) (n : length ys ≡ length xs) (i : ℕ) (l : Level xs ys i) where
   module _ (h : i < length xs) where
-    pub after-more : getD ys i 0 < getD xs i 0 → true ≡ isAfter (order xs ys)
+    pub after-apart : (getD xs i 0 ≡ getD ys i 0 → ⊥) → ltb (getD ys i 0) (getD xs i 0) ≡ isAfter (order xs ys)
     unfolding Level
-    after-more t =
+    after-apart d =
         let b : i < length ys = omega arith in
-        sym (ap isAfter l ∙ rw (drop-cons xs i 0, drop-cons ys i 0) (above _ _ _ _ t))
+        go (ltb (getD ys i 0) (getD xs i 0)) refl ∙ sym (ap isAfter l ∙ rw (drop-cons xs i 0, drop-cons ys i 0))
+      where
+        go : (t : Bool) → ltb (getD ys i 0) (getD xs i 0) ≡ t → ltb (getD ys i 0) (getD xs i 0) ≡ isAfter (order (getD xs i 0 ∷ drop (suc i) xs) (getD ys i 0 ∷ drop (suc i) ys))
+        go true e = e ∙ sym (above _ _ _ _ (ltb-true _ _ e))
+        go false e = e ∙ sym (below _ _ _ _ (omega (arith, ltb-false (getD ys i 0) (getD xs i 0) e)))
 
-    pub after-less : getD xs i 0 < getD ys i 0 → false ≡ isAfter (order xs ys)
+    pub after-next : getD xs i 0 ≡ getD ys i 0 → Level xs ys (i + 1)
     unfolding Level
-    after-less t =
+    after-next t =
         let b : i < length ys = omega arith in
-        sym (ap isAfter l ∙ rw (drop-cons xs i 0, drop-cons ys i 0) (below _ _ _ _ t))
-
-    pub after-next : getD xs i 0 ≤ getD ys i 0 → getD ys i 0 ≤ getD xs i 0 → Level xs ys (i + 1)
-    unfolding Level
-    after-next t u =
-        let b : i < length ys = omega arith in
-        l ∙ rw (add-one, drop-cons xs i 0, drop-cons ys i 0) (level _ _ _ _ t u)
+        l ∙ rw (add-one, drop-cons xs i 0, drop-cons ys i 0) (level _ _ _ _ (omega arith) (omega arith))
 
   pub after-end : length xs ≤ i → false ≡ isAfter (order xs ys)
   unfolding Level order isAfter

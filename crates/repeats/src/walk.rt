@@ -97,11 +97,8 @@ fn is_above(number: &[u8], greatest: &[u8]) -> bool
     while i < number.len() {
         let byte = number[i];
         let other = greatest[i];
-        if other < byte {
-            return true;
-        }
-        if byte < other {
-            return false;
+        if byte != other {
+            return other < byte;
         }
         i += 1;
     }

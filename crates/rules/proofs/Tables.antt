@@ -3,6 +3,8 @@
 use mathlib.Core.Path.{_≡_, refl, _∙_}
 use mathlib.Core.List.{List, [], _∷_, _++_, map}
 use Prim.Native.Nat.{ℕ}
+use types.Run.{OneOf, miss}
+use denote.Enum.Declared.{tagOf}
 use Rattle.record.specs.declared.codes.Letter.{Letter}
 use Rattle.record.specs.declared.codes.Letter.the-variants.{N, C, W, I, A}
 use Rattle.record.specs.Choice.{_and_, _or_, choose}
@@ -26,8 +28,9 @@ module _ (c : Context) (n : ℕ) (rec : List ℕ) where
   joined f g z xs ys zs e h k = k ∙ rw (e, findings-append xs ys, after-append f (findings c n rec xs) (findings c n rec ys), h)
 
   -- the rules of a letter that is known
-  pub lettered : (f z : Finding) (l m : Letter) (rs : List Rule) → l ≡ m → z ≡ after f (findings c n rec (rulesFor m rs)) → z ≡ after f (findings c n rec (rulesFor l rs))
-  lettered f z l m rs e h = rw e h
+  pub lettered : (f z : Finding) (l m : Letter) (from to : ℕ) (rs : List Rule) → l ≡ m → z ≡ after f (findings c n rec (rows from to m rs))
+      → z ≡ after f (findings c n rec (rows from to l rs))
+  lettered f z l m from to rs e h = rw e h
 
   pub nothing : (f : Finding) (rs : List Rule) → rs ≡ [] → f ≡ after f (findings c n rec rs)
   unfolding findings after
@@ -54,33 +57,41 @@ pub header-a : rulesFor A header ≡ rows 6 9 N header ++ rows 10 14 I header
 unfolding rows among header letterByte choose _and_ _or_
 header-a = refl
 
-pub common-parts : rows 26 38 N detail ≡ rows 26 28 N detail ++ rows 35 38 N detail
+pub common-parts : (l : Letter) → rows 26 38 l detail ≡ rows 26 28 N detail ++ (rows 29 29 l detail ++ rows 35 38 N detail)
 unfolding rows among detail letterByte choose _and_ _or_
-common-parts = refl
+common-parts N = refl
+common-parts C = refl
+common-parts W = refl
+common-parts I = refl
+common-parts A = refl
 
-pub common-c-parts : rows 26 38 C detail ≡ rows 26 29 C detail ++ rows 35 38 N detail
-unfolding rows among detail letterByte choose _and_ _or_
-common-c-parts = refl
+-- a letter that is not that of checks
+abbrev pub Other : Letter → Type 0
+Other l = OneOf (0 ∷ 2 ∷ 3 ∷ 4 ∷ []) (tagOf Rattle.record.proofs.codes.Letter.the-type l)
 
-pub detail-n : rulesFor N detail ≡ rows 23 24 N detail ++ (rows 26 38 N detail ++ rows 42 62 N detail)
+-- the payee's location is asked of checks alone
+pub location-none : (l : Letter) → Other l → rows 29 29 l detail ≡ []
 unfolding rows among detail letterByte choose _and_ _or_
-detail-n = refl
+location-none N d = refl
+location-none C d = absurd (miss (0 ∷ 2 ∷ 3 ∷ 4 ∷ []) 1 tt d)
+location-none W d = refl
+location-none I d = refl
+location-none A d = refl
 
-pub detail-c : rulesFor C detail ≡ rows 23 25 C detail ++ (rows 26 38 C detail ++ rows 42 62 C detail)
+check-parts : rulesFor C detail ≡ rows 23 25 C detail ++ (rows 26 38 C detail ++ rows 42 62 C detail)
 unfolding rows among detail letterByte choose _and_ _or_
-detail-c = refl
+check-parts = refl
 
-pub detail-w : rulesFor W detail ≡ rows 23 24 N detail ++ (rows 26 38 N detail ++ rows 42 62 W detail)
-unfolding rows among detail letterByte choose _and_ _or_
-detail-w = refl
+pub detail-c : (l : Letter) → l ≡ C → rulesFor l detail ≡ rows 23 25 C detail ++ (rows 26 38 l detail ++ rows 42 62 l detail)
+detail-c l e = rw e check-parts
 
-pub detail-i : rulesFor I detail ≡ rows 23 24 N detail ++ (rows 26 38 N detail ++ rows 42 62 I detail)
+pub detail-other : (l : Letter) → Other l → rulesFor l detail ≡ rows 23 24 N detail ++ (rows 26 38 l detail ++ rows 42 62 l detail)
 unfolding rows among detail letterByte choose _and_ _or_
-detail-i = refl
-
-pub detail-a : rulesFor A detail ≡ rows 23 24 N detail ++ (rows 26 38 N detail ++ rows 42 62 A detail)
-unfolding rows among detail letterByte choose _and_ _or_
-detail-a = refl
+detail-other N d = refl
+detail-other C d = absurd (miss (0 ∷ 2 ∷ 3 ∷ 4 ∷ []) 1 tt d)
+detail-other W d = refl
+detail-other I d = refl
+detail-other A d = refl
 
 pub account-parts : rulesFor N account ≡ rows 80 85 N account ++ rows 86 87 N account
 unfolding rows among account letterByte choose _and_ _or_

@@ -133,20 +133,6 @@ fn end_a(known: Finding, rec: &[u8], line: Line, context: Context) -> Finding
     reasons::note(after_55, reason_56, line.number, 56)
 }
 
-// Fields 26 to 29 of DC.
-fn payee_c(known: Finding, rec: &[u8], line: Line, context: Context) -> Finding
-    requires { ⌜ (length (now rec) ≡ 850) × Kept context ⌝ }
-    ensures { λ r. ⌜ r ≡ after known (findings context (line .number) (seen line (now (rec .entry))) (rows 26 29 C detail)) ⌝ }
-{
-    let codes = context.codes;
-    let reason_26 = values::required(rec, line, PAYEE_NAME);
-    let after_26 = reasons::note(known, reason_26, line.number, 26);
-    let reason_28 = lookups::in_book(rec, line, PAYMENT_TYPE_CODE, codes.types);
-    let after_28 = reasons::note(after_26, reason_28, line.number, 28);
-    let reason_29 = lookups::in_book(rec, line, PAYMENT_LOCATION_CODE, codes.locations);
-    reasons::note(after_28, reason_29, line.number, 29)
-}
-
 // Fields 52 to 59 of DC.
 fn end_c(known: Finding, rec: &[u8], line: Line, context: Context) -> Finding
     requires { ⌜ (length (now rec) ≡ 850) × Kept context ⌝ }
@@ -162,22 +148,49 @@ fn end_c(known: Finding, rec: &[u8], line: Line, context: Context) -> Finding
     reasons::note(after_58, reason_59, line.number, 59)
 }
 
-// Fields 26 to 38 of a detail other than DC.
-fn common(known: Finding, rec: &[u8], line: Line, context: Context) -> Finding
+// Field 29 of DC.
+fn location_c(known: Finding, rec: &[u8], line: Line, context: Context) -> Finding
     requires { ⌜ (length (now rec) ≡ 850) × Kept context ⌝ }
-    ensures { λ r. ⌜ r ≡ after known (findings context (line .number) (seen line (now (rec .entry))) (rows 26 38 N detail)) ⌝ }
+    ensures { λ r. ⌜ r ≡ after known (findings context (line .number) (seen line (now (rec .entry))) (rows 29 29 C detail)) ⌝ }
 {
-    let begun = payee(known, rec, line, context);
-    address(begun, rec, line, context)
+    let codes = context.codes;
+    let reason_29 = lookups::in_book(rec, line, PAYMENT_LOCATION_CODE, codes.locations);
+    reasons::note(known, reason_29, line.number, 29)
 }
 
-// Fields 26 to 38 of DC.
-fn common_c(known: Finding, rec: &[u8], line: Line, context: Context) -> Finding
+// Field 29, which no other detail has.
+fn location(known: Finding, rec: &[u8], line: Line, letter: Letter, context: Context) -> Finding
     requires { ⌜ (length (now rec) ≡ 850) × Kept context ⌝ }
-    ensures { λ r. ⌜ r ≡ after known (findings context (line .number) (seen line (now (rec .entry))) (rows 26 38 C detail)) ⌝ }
+    ensures { λ r. ⌜ r ≡ after known (findings context (line .number) (seen line (now (rec .entry))) (rows 29 29 letter detail)) ⌝ }
 {
-    let begun = payee_c(known, rec, line, context);
-    address(begun, rec, line, context)
+    match letter {
+        Letter::C => location_c(known, rec, line, context),
+        _ => known,
+    }
+}
+
+// Fields 26 to 38.
+fn common(known: Finding, rec: &[u8], line: Line, letter: Letter, context: Context) -> Finding
+    requires { ⌜ (length (now rec) ≡ 850) × Kept context ⌝ }
+    ensures { λ r. ⌜ r ≡ after known (findings context (line .number) (seen line (now (rec .entry))) (rows 26 38 letter detail)) ⌝ }
+{
+    let begun = payee(known, rec, line, context);
+    let then = location(begun, rec, line, letter, context);
+    address(then, rec, line, context)
+}
+
+// Fields 42 to 62. Like `common` it has two callers, so that neither is part of the loop over a batch.
+fn end(known: Finding, rec: &[u8], line: Line, letter: Letter, context: Context) -> Finding
+    requires { ⌜ (length (now rec) ≡ 850) × Kept context ⌝ }
+    ensures { λ r. ⌜ r ≡ after known (findings context (line .number) (seen line (now (rec .entry))) (rows 42 62 letter detail)) ⌝ }
+{
+    match letter {
+        Letter::N => end_n(known, rec, line, context),
+        Letter::C => end_c(known, rec, line, context),
+        Letter::W => end_w(known, rec, line, context),
+        Letter::I => end_i(known, rec, line, context),
+        Letter::A => end_a(known, rec, line, context),
+    }
 }
 
 // The rules of a detail.
@@ -192,30 +205,15 @@ pub fn detail_rules(
     ensures { λ r. ⌜ r ≡ after known (findings context (line .number) (seen line (now (rec .entry))) (rulesFor letter detail)) ⌝ }
 {
     match letter {
-        Letter::N => {
-            let begun = start(known, rec, line, context);
-            let then = common(begun, rec, line, context);
-            end_n(then, rec, line, context)
-        }
         Letter::C => {
             let begun = start_c(known, rec, line, context);
-            let then = common_c(begun, rec, line, context);
-            end_c(then, rec, line, context)
+            let then = common(begun, rec, line, letter, context);
+            end(then, rec, line, letter, context)
         }
-        Letter::W => {
+        _ => {
             let begun = start(known, rec, line, context);
-            let then = common(begun, rec, line, context);
-            end_w(then, rec, line, context)
-        }
-        Letter::I => {
-            let begun = start(known, rec, line, context);
-            let then = common(begun, rec, line, context);
-            end_i(then, rec, line, context)
-        }
-        Letter::A => {
-            let begun = start(known, rec, line, context);
-            let then = common(begun, rec, line, context);
-            end_a(then, rec, line, context)
+            let then = common(begun, rec, line, letter, context);
+            end(then, rec, line, letter, context)
         }
     }
 }

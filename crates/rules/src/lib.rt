@@ -38,7 +38,10 @@ pub fn symbol_of(rec: &[u8], line: Line) -> [u8; 4]
     requires { ⌜ length (now rec) ≡ 850 ⌝ }
     ensures { λ r. ⌜ r ≡ held (seen line (now (rec .entry))) checkSymbolNumber ⌝ }
 {
-    let mut symbol = [0u8; 4];
+    let mut symbol = [0x40u8; 4];
+    if record::field_blank(rec, line, CHECK_SYMBOL_NUMBER) {
+        return symbol;
+    }
     record::copy_field(rec, line, CHECK_SYMBOL_NUMBER, &mut symbol);
     symbol
 }

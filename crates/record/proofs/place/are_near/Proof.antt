@@ -1,25 +1,24 @@
 use borrow.Author.Needs.{needs}
 use Prim.Native.Nat.{_≤_, _-_}
-use Rattle.record.specs.Place.{sent, near}
-use Rattle.record.proofs.Every.{Left, left-none, every-next, every-stop, every-end}
-use Rattle.record.proofs.Sent.{near-far, near-by, within-plain}
+use Rattle.record.specs.Place.{sent}
+use Rattle.record.proofs.Sent.{Farthest, farthest-none, farthest-next, farthest-end, within-plain}
 use Rattle.record.proofs.place.are_near.Statement.{statement}
 use Rattle.record.proofs.place.are_near.Tie as tie
 
 abbrev Inv-loop : tie.InvT-loop
-Inv-loop rec place zero from to i₀ i = (i ≤ to) × Left (near zero) (sent rec place) from to i
+Inv-loop rec place zero from to farthest₀ i₀ farthest i = (i ≤ to) × Farthest zero (sent rec place) from to i farthest
 
 abbrev μ-loop : tie.MeasureT-loop
-μ-loop rec place zero from to i₀ i = to - i
+μ-loop rec place zero from to farthest₀ i₀ farthest i = to - i
 
 loop-holds : tie.Need-loop-holds Inv-loop μ-loop
-loop-holds c = search (needs, left-none)
+loop-holds c = search (needs, farthest-none)
 
 sent-byte-requires : tie.Need-sent-byte-requires Inv-loop μ-loop
 sent-byte-requires c κs = search needs
 
-returns : tie.Need-returns Inv-loop μ-loop
-returns c = search (needs, every-stop, near-far, within-plain)
+greater-requires : tie.Need-greater-requires Inv-loop μ-loop
+greater-requires c κs = search needs
 
 add-i : tie.Need-add-i Inv-loop μ-loop
 add-i c = search needs
@@ -28,10 +27,10 @@ loop-less : tie.Need-loop-less Inv-loop μ-loop
 loop-less c = search needs
 
 loop-again : tie.Need-loop-again Inv-loop μ-loop
-loop-again c = search (needs, every-next, near-by, within-plain)
+loop-again c = search (needs, farthest-next, within-plain)
 
-returns-2 : tie.Need-returns-2 Inv-loop μ-loop
-returns-2 c = search (needs, every-end)
+returns : tie.Need-returns Inv-loop μ-loop
+returns c = search (needs, farthest-end)
 
 pub are-near-spec : {M : Type 1} → statement M
 are-near-spec =
@@ -41,8 +40,8 @@ are-near-spec =
     μ-loop
     loop-holds
     sent-byte-requires
-    returns
+    greater-requires
     add-i
     loop-less
     loop-again
-    returns-2)
+    returns)

@@ -1,7 +1,7 @@
 use Prim.Native.Nat.{_≤_, _-_}
 use lib.ListN.{length}
 use Rattle.record.proofs.Orders.{Level, level-none}
-use Rattle.repeats.proofs.Greatest.{after-more, after-less, after-next, after-end}
+use Rattle.repeats.proofs.Greatest.{after-apart, after-next, after-end}
 use borrow.Author.Needs.{needs}
 use Rattle.repeats.proofs.walk.is_above.Statement.{statement}
 use Rattle.repeats.proofs.walk.is_above.Tie as tie
@@ -22,10 +22,7 @@ shared-slice-read-other : tie.Need-shared-slice-read-other Inv-loop μ-loop
 shared-slice-read-other c = search needs
 
 returns : tie.Need-returns Inv-loop μ-loop
-returns c = search (needs, after-more)
-
-returns-2 : tie.Need-returns-2 Inv-loop μ-loop
-returns-2 c = search (needs, after-less)
+returns c = search (needs, after-apart)
 
 add-i : tie.Need-add-i Inv-loop μ-loop
 add-i c = search needs
@@ -36,8 +33,8 @@ loop-less c = search needs
 loop-again : tie.Need-loop-again Inv-loop μ-loop
 loop-again c = search (needs, after-next)
 
-returns-3 : tie.Need-returns-3 Inv-loop μ-loop
-returns-3 c = search (needs, after-end)
+returns-2 : tie.Need-returns-2 Inv-loop μ-loop
+returns-2 c = search (needs, after-end)
 
 pub is-above-spec : {M : Type 1} → statement M
 is-above-spec =
@@ -49,8 +46,7 @@ is-above-spec =
     shared-slice-read-byte
     shared-slice-read-other
     returns
-    returns-2
     add-i
     loop-less
     loop-again
-    returns-3)
+    returns-2)

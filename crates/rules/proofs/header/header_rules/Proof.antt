@@ -52,27 +52,27 @@ end-other-requires-2 c κs = search needs
 
 returns : tie.Need-returns
 returns c =
-    lettered _ _ _ _ _ _ N header (search needs)
+    lettered _ _ _ _ _ _ N _ _ header (search needs)
     (joined _ _ _ _ _ _ (rows 6 9 N header) (rows 10 14 N header) _ header-n (c .before .start .ensures) (c .end-n .ensures))
 
 returns-2 : tie.Need-returns-2
 returns-2 c =
-    lettered _ _ _ _ _ _ C header (search needs)
+    lettered _ _ _ _ _ _ C _ _ header (search needs)
     (joined _ _ _ _ _ _ (rows 6 17 C header) (rows 18 20 C header) _ header-c (c .before .start-c .ensures) (c .end-c .ensures))
 
 returns-3 : tie.Need-returns-3
 returns-3 c =
-    lettered _ _ _ _ _ _ W header (search needs)
+    lettered _ _ _ _ _ _ W _ _ header (search needs)
     (joined _ _ _ _ _ _ (rows 6 9 N header) (rows 10 14 W header) _ header-w (c .before .start2 .ensures) (c .end-w .ensures))
 
 returns-4 : tie.Need-returns-4
 returns-4 c =
-    lettered _ _ _ _ _ _ I header (search needs)
+    lettered _ _ _ _ _ _ I _ _ header (search needs)
     (joined _ _ _ _ _ _ (rows 6 9 N header) (rows 10 14 I header) _ header-i (c .before .start3 .ensures) (c .end-other .ensures))
 
 returns-5 : tie.Need-returns-5
 returns-5 c =
-    lettered _ _ _ _ _ _ A header (search needs)
+    lettered _ _ _ _ _ _ A _ _ header (search needs)
     (joined _ _ _ _ _ _ (rows 6 9 N header) (rows 10 14 I header) _ header-a (c .before .start4 .ensures) (c .end-other2 .ensures))
 
 pub header-rules-spec : {M : Type 1} → statement M

@@ -37,23 +37,23 @@ enum-told-5 c = search needs
 
 returns : tie.Need-returns
 returns c =
-    lettered _ _ _ _ _ _ N party (search needs) (c .party-name .ensures)
+    lettered _ _ _ _ _ _ N _ _ party (search needs) (c .party-name .ensures)
 
 returns-2 : tie.Need-returns-2
 returns-2 c =
-    lettered _ _ _ _ _ _ C party (search needs) (c .party-name2 .ensures ∙ rw (party-asked C (λ e. let z : _≡_ {A = ℕ} 0 1 = cc in omega arith)))
+    lettered _ _ _ _ _ _ C _ _ party (search needs) (c .party-name2 .ensures ∙ rw (party-asked C (λ e. let z : _≡_ {A = ℕ} 0 1 = cc in omega arith)))
 
 returns-3 : tie.Need-returns-3
 returns-3 c =
-    lettered _ _ _ _ _ _ W party (search needs) (c .party-name3 .ensures ∙ rw (party-asked W (λ e. let z : _≡_ {A = ℕ} 0 1 = cc in omega arith)))
+    lettered _ _ _ _ _ _ W _ _ party (search needs) (c .party-name3 .ensures ∙ rw (party-asked W (λ e. let z : _≡_ {A = ℕ} 0 1 = cc in omega arith)))
 
 returns-4 : tie.Need-returns-4
 returns-4 c =
-    lettered _ _ _ _ _ _ I party (search needs) (c .party-name4 .ensures ∙ rw (party-asked I (λ e. let z : _≡_ {A = ℕ} 0 1 = cc in omega arith)))
+    lettered _ _ _ _ _ _ I _ _ party (search needs) (c .party-name4 .ensures ∙ rw (party-asked I (λ e. let z : _≡_ {A = ℕ} 0 1 = cc in omega arith)))
 
 returns-5 : tie.Need-returns-5
 returns-5 c =
-    lettered _ _ _ _ _ _ A party (search needs) (nothing _ _ _ _ _ party-none)
+    lettered _ _ _ _ _ _ A _ _ party (search needs) (nothing _ _ _ _ _ party-none)
 
 pub party-rules-spec : {M : Type 1} → statement M
 party-rules-spec =
