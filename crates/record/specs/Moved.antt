@@ -1,4 +1,4 @@
--- Where a value stands that has to be moved (02 W3): zeros, a part of the record, and blanks. No promise to other crates rests on it.
+-- Where a value stands that has to be moved (02 W3): zeros, a part of the record, and blanks. Of the promises to other crates `field_part`'s alone names any of it: when its part is empty.
 use Prim.Native.Nat.{ℕ, _+_, _-_, _≤_}
 use mathlib.Core.Path.{_≡_}
 use mathlib.Core.Bool.{Bool, true, not}

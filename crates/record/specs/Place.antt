@@ -29,9 +29,9 @@ plain p = record { start = p .start; width = p .width; ascii = false }
 abbrev pub sent : List ℕ → Place → List ℕ
 sent rec p = value rec (plain p)
 
--- a digit, by the bits in which it differs from zero: F0, or 30 in ASCII
+-- a digit, by the bits in which it differs from the byte of zero: F0, or 30 in ASCII
 unfoldable pub near : ℕ → ℕ → Bool
-near zero x = leb (bitXor x zero) 9
+near base x = leb (bitXor x base) 9
 
 -- the least of n and the bytes, those above 7E taken for 0: how the code decides `valid` of ASCII
 unfoldable pub leastPrintable : ℕ → List ℕ → ℕ

@@ -2,13 +2,8 @@
 -- Assumes nothing.
 use mathlib.Core.Path.{_≡_, sym, _∙_}
 use denote.Ref.{now}
-use Rattle.record.proofs.Unique.{OneResult}
 use Rattle.tables.proofs.enter.Reads as enter
-use Rattle.tables.proofs.kind.kind_order.Reads as kind-order
 
 -- behind four arguments, `.0` is the table afterwards
 pub enter-unique : (κs : _) (a : _) (r s : _) (x y : _) → enter.Post κs a r x → enter.Post κs a s y → (r ≡ s) × (now (x .1 .1 .1 .1 .0) ≡ now (y .1 .1 .1 .1 .0))
 enter-unique κs a r s x y p q = (p .0 ∙ sym (q .0), p .1 ∙ sym (q .1))
-
-pub kind-order-unique : OneResult kind-order.Post
-kind-order-unique κs a r s x y p q = p ∙ sym q

@@ -110,7 +110,7 @@ fn first_unlike(rec: &[u8], other: &[u8]) -> usize
 }
 
 // How the kind of one record stands to that of another of the file. Fields before the first byte that differs as it was sent hold the same.
-pub fn kind_order(rec: &[u8], line: Line, other: &[u8], other_line: Line) -> Order
+pub(crate) fn kind_order(rec: &[u8], line: Line, other: &[u8], other_line: Line) -> Order
     requires { ⌜ (length (now rec) ≡ 850) × (length (now other) ≡ 850) × (line .ascii ≡ «other_line» .ascii) ⌝ }
     ensures { λ r. ⌜ r ≡ order (kind (seen line (now (rec .entry)))) (kind (seen «other_line» (now (other .entry)))) ⌝ }
 {

@@ -1,5 +1,5 @@
 // Sorted tables of places: records in ascending order of a key, each value once. A table is lent, so its size is the caller's.
-pub mod kind;
+mod kind;
 
 use record::Field;
 use record::Line;
