@@ -117,6 +117,10 @@ pub record Lists (bytes : List ℕ) (c : Contents) : Type 0 where
 unfoldable pub standing : ℕ → Kind → List (List ℕ) → Section
 standing at k es = record { start = at + 6; count = length es; code = k .code; entry = k .entry }
 
+-- a section by its numbers
+abbrev pub sectionAt : ℕ → ℕ → ℕ → ℕ → Section
+sectionAt start count code entry = record { start = start; count = count; code = code; entry = entry }
+
 -- the place after a section
 unfoldable pub past : Section → ℕ
 past s = s .start + s .count * s .entry

@@ -10,7 +10,7 @@ ghost use Prim.Native.Nat.{_≤_};
 ghost use lib.ListN.{length};
 ghost use Rattle.record.specs.Value.{Has, seen, held};
 ghost use Rattle.record.specs.Choice.{choose};
-ghost use Rattle.book.specs.Book.{Shelved, entriesAt, entryFor, flagOf, isNone, listing, said};
+ghost use Rattle.book.specs.Book.{Shelved, entriesAt, entryFor, flagOf, isNone, listing, said, sectionAt};
 
 // What the book says of a code: whether it is listed, and whether its entry is flagged, a CARS Reporter in kind 2, a credit in kind 3.
 pub struct Listing {
@@ -71,18 +71,51 @@ fn part_or<'a>(part: &'a [u8], copy: &'a [u8]) -> &'a [u8]
     part
 }
 
-// The entry whose code the field holds, or an empty part where there is none. A code that has to be translated or moved is copied first, so that
-// this is done once and not for each entry it is compared with.
-pub fn find<'a>(book: &'a [u8], section: Section, rec: &[u8], line: Line, field: Field) -> &'a [u8]
-    requires { ⌜ Shelved (now book) section × Has (now rec) field × (field .width ≤ 40) ⌝ }
-    ensures { λ r. ⌜ now r ≡ entryFor (section .code) (entriesAt (now (book .entry)) section) (held (seen line (now (rec .entry))) field) ⌝ }
+// The entry whose code the field holds, in the section of these numbers, or an empty part where there is none. A code that has to be translated or
+// moved is copied first, so that this is done once and not for each entry it is compared with. The section comes as its numbers: lent as a whole it
+// would keep the book's struct in memory, and a copy of it at every call on the way here.
+fn find_in<'a>(
+    book: &'a [u8],
+    start: usize,
+    count: usize,
+    code: usize,
+    entry: usize,
+    rec: &[u8],
+    line: Line,
+    field: Field,
+) -> &'a [u8]
+    requires { ⌜ Shelved (now book) (sectionAt start count code entry) × Has (now rec) field × (field .width ≤ 40) ⌝ }
+    ensures { λ r. ⌜ now r ≡ entryFor code (entriesAt (now (book .entry)) (sectionAt start count code entry)) (held (seen line (now (rec .entry))) field) ⌝ }
 {
+    let section = Section {
+        start,
+        count,
+        code,
+        entry,
+    };
     let width = field.width;
     let part = record::field_part(rec, line, field);
     let mut copy = [0u8; 40];
     let own = &mut copy[..width];
     copy_unless(part, rec, line, field, own);
     find_value(book, section, part_or(part, own))
+}
+
+// The entry of the section whose code the field holds, or an empty part where there is none.
+pub fn find<'a>(book: &'a [u8], section: Section, rec: &[u8], line: Line, field: Field) -> &'a [u8]
+    requires { ⌜ Shelved (now book) section × Has (now rec) field × (field .width ≤ 40) ⌝ }
+    ensures { λ r. ⌜ now r ≡ entryFor (section .code) (entriesAt (now (book .entry)) section) (held (seen line (now (rec .entry))) field) ⌝ }
+{
+    find_in(
+        book,
+        section.start,
+        section.count,
+        section.code,
+        section.entry,
+        rec,
+        line,
+        field,
+    )
 }
 
 // The flag of the entry that was handed back: a CARS Reporter in kind 2, a credit in kind 3.
@@ -115,6 +148,15 @@ pub fn look_up(book: &[u8], section: Section, rec: &[u8], line: Line, field: Fie
             flagged: false,
         };
     }
-    let entry = find(book, section, rec, line, field);
+    let entry = find_in(
+        book,
+        section.start,
+        section.count,
+        section.code,
+        section.entry,
+        rec,
+        line,
+        field,
+    );
     say(entry)
 }

@@ -10,8 +10,8 @@ field-blank-requires c κs = search needs
 returns : tie.Need-returns
 returns c = search (needs, unsaid, reads)
 
-find-requires : tie.Need-find-requires
-find-requires c κs = search needs
+find-in-requires : tie.Need-find-in-requires
+find-in-requires c κs = search needs
 
 say-requires : tie.Need-say-requires
 say-requires c κs = search needs
@@ -20,4 +20,4 @@ returns-2 : tie.Need-returns-2
 returns-2 c = search (needs, said-of, reads)
 
 pub look-up-spec : {M : Type 1} → statement M
-look-up-spec = tie.close (tie.spec field-blank-requires returns find-requires say-requires returns-2)
+look-up-spec = tie.close (tie.spec field-blank-requires returns find-in-requires say-requires returns-2)

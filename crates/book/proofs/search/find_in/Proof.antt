@@ -2,8 +2,8 @@ use mathlib.Core.Path.{sym}
 use lib.Seq.{length-take-le}
 use Rattle.book.proofs.Lookup.{found-copy, either-held}
 use borrow.Author.Needs.{needs}
-use Rattle.book.proofs.search.find.Statement.{statement}
-use Rattle.book.proofs.search.find.Tie as tie
+use Rattle.book.proofs.search.find_in.Statement.{statement}
+use Rattle.book.proofs.search.find_in.Tie as tie
 
 field-part-requires : tie.Need-field-part-requires
 field-part-requires c κs = search needs
@@ -26,8 +26,8 @@ find-value-requires c κs = search needs
 returns : tie.Need-returns
 returns c = search (needs, found-copy, either-held)
 
-pub find-spec : {M : Type 1} → statement M
-find-spec =
+pub find-in-spec : {M : Type 1} → statement M
+find-in-spec =
     tie.close
     (tie.spec
     field-part-requires
