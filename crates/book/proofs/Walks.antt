@@ -2,18 +2,21 @@
 -- Assumes nothing.
 use mathlib.Core.Path.{_≡_, refl, sym, ap, _∙_}
 use mathlib.Core.Bool.{Bool, true, false}
-use mathlib.Core.List.{List}
+use mathlib.Core.List.{List, []}
 use Prim.Native.Nat.{ℕ, zero, suc, _+_, _-_, _*_, _≤_, _<_}
 use native.Mathlib.Numerals.{add-one}
 use native.Mathlib.Omega.{arith}
 use lib.Dec.{leb}
 use borrow.Author.Tests.{le-leb, lt-leb}
 use lib.ListN.{length, take, drop, getD, length-drop}
-use lib.Seq.{slice-cons, slice-empty, getD-drop}
+use lib.Seq.{slice-cons, slice-empty, getD-drop, length-take-le}
 use Rattle.record.specs.declared.Order.{Order}
-use Rattle.record.specs.Choice.{_and_}
+use Rattle.record.specs.Choice.{_and_, choose}
+use Rattle.record.specs.Fields.{text}
 use Rattle.record.specs.Tests.{every}
-use Rattle.record.specs.Ordering.{order, isBefore}
+use Rattle.record.specs.Ordering.{order, isAfter, isBefore}
+use Rattle.record.proofs.Held.{held-length}
+use Rattle.words.proofs.Afters.{part-whole, after-before}
 use Rattle.book.specs.declared.Section.{Section}
 use Rattle.book.specs.Book.{entryCode, flagged, follow, ascend, cut, entriesAt}
 use Rattle.book.specs.Reading.{flags}
@@ -129,3 +132,21 @@ module _ (bs : List ℕ) (at entry code : ℕ) (o : Order)
 
   pub told-pair : (v : Order) → o ≡ v → isBefore v ≡ isBefore (order (entryCode code (take entry (drop at bs))) (entryCode code (take entry (drop (at + entry) bs))))
   told-pair v t = ap isBefore (sym t ∙ told)
+
+-- the parts of two entries that are their codes, each as long as a code
+module _ (bs : List ℕ) (at entry code : ℕ) (h : at + entry + entry ≤ length bs) (k : code ≤ entry) where
+  code-wide : (i : ℕ) → i + entry ≤ length bs → length (entryCode code (take entry (drop i bs))) ≡ code
+  unfolding entryCode
+  code-wide i l =
+      let n : length (take entry (drop i bs)) ≡ entry = length-take-le entry (drop i bs) (omega (arith, length-drop i bs)) in
+      held-length false (take entry (drop i bs)) (text 1 code) (omega arith, omega arith)
+
+  pub parts-pair : (here there : List ℕ) (b d r : Bool) → here ≡ choose b [] (entryCode code (take (at + entry - at) (drop at bs)))
+      → there ≡ choose d [] (entryCode code (take (at + entry + entry - (at + entry)) (drop (at + entry) bs))) → length here ≡ code → length there ≡ code
+      → r ≡ isAfter (order there here) → r ≡ isBefore (order (entryCode code (take entry (drop at bs))) (entryCode code (take entry (drop (at + entry) bs))))
+  parts-pair here there b d r e f l n q =
+      let m : at + entry - at ≡ entry = omega arith in
+      let j : at + entry + entry - (at + entry) ≡ entry = omega arith in
+      let x : here ≡ entryCode code (take entry (drop at bs)) = part-whole b _ here (rw m at e) (l ∙ sym (code-wide at (omega arith))) in
+      let y : there ≡ entryCode code (take entry (drop (at + entry) bs)) = part-whole d _ there (rw j at f) (n ∙ sym (code-wide (at + entry) (omega arith))) in
+      q ∙ after-before here there ∙ rw (x, y)

@@ -126,7 +126,8 @@ fn has_flags(book: &[u8], section: Section) -> bool
     true
 }
 
-// The entry at `at` stands before the one after it, by their codes as they are corrected (02 W3).
+// The entry at `at` stands before the one after it, by their codes as they are corrected (02 W3). Codes that stand where they belong are held
+// against each other eight bytes at a time.
 fn is_pair(book: &[u8], at: usize, code: usize, entry: usize) -> bool
     requires { ⌜ (at + entry + entry ≤ length (now book)) × (code ≤ entry) ⌝ }
     ensures { λ r. ⌜ r ≡ isBefore (order (entryCode code (take entry (drop at (now (book .entry))))) (entryCode code (take entry (drop (at + entry) (now (book .entry)))))) ⌝ }
@@ -138,6 +139,13 @@ fn is_pair(book: &[u8], at: usize, code: usize, entry: usize) -> bool
         width: code,
         justification: Justification::Text,
     };
+    let here = record::field_part(&book[at..next], LENT, field);
+    let there = record::field_part(&book[next..end], LENT, field);
+    if here.len() == code {
+        if there.len() == code {
+            return words::is_after(there, here);
+        }
+    }
     match record::fields_order(&book[at..next], LENT, &book[next..end], LENT, field) {
         Order::Before => true,
         Order::Same => false,

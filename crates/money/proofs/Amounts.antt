@@ -2,20 +2,23 @@
 -- Assumes nothing.
 use mathlib.Core.Path.{_≡_, refl, sym, ap, _∙_}
 use mathlib.Core.Bool.{Bool, true, false, not}
-use mathlib.Core.List.{List}
+use mathlib.Core.List.{List, [], _∷_}
 use Prim.Native.Nat.{ℕ, _+_, _-_, _*_, _≤_, _<_}
 use native.Mathlib.Nat.{pow-le-pow-right, lt-of-lt-of-le}
 use native.Mathlib.Omega.{arith}
 use lib.Dec.{eqb, ltb}
 use borrow.Author.Tests.{not-false, eq-eqb, ne-eqb, eqb-true, eqb-false, lt-ltb, le-ltb, ltb-true, ltb-false}
 use lib.ListN.{length, take, drop, length-drop, take-append-drop}
-use lib.Seq.{slice, take-all}
+use lib.Seq.{slice, take-all, take-take}
 use Rattle.record.specs.declared.Field.{Field}
-use Rattle.record.specs.Choice.{choose}
+use Rattle.record.specs.declared.Justification.the-variants.{Fixed}
+use Rattle.record.specs.Choice.{_and_, choose}
+use Rattle.record.specs.Correction.{corrected}
 use Rattle.page.specs.CodePage.{shown}
 use Rattle.record.specs.Value.{Has, written, held}
-use Rattle.record.specs.Tests.{digits}
-use Rattle.record.specs.Numeral.{numeral}
+use Rattle.record.specs.Tests.{every, only, zeros, digit, digits}
+use Rattle.record.specs.Numeral.{numeral, numeralFrom}
+use Rattle.record.proofs.Chain.{and-left, and-right}
 use Rattle.record.proofs.Held.{written-length, held-length, held-digits}
 use Rattle.record.proofs.Every.{digits-part, digits-halves}
 use Rattle.record.proofs.Numbers.{numeral-append, numeral-below}
@@ -131,6 +134,34 @@ module _ (ascii : Bool) (rec : List ℕ) (f : Field) (p : Has rec f) (w : f .wid
     pub amount-stands : (h l : ℕ) → h ≡ numeral (slice 0 10 (written (shown ascii rec) f)) → l ≡ numeral (slice 10 20 (written (shown ascii rec) f))
         → record { high = h; low = l } ≡ split (cents (held (shown ascii rec) f))
     amount-stands h l a b = amount-of (written (shown ascii rec) f) h l twenty all-digits a b ∙ ap (λ (xs : List ℕ). split (cents xs)) (sym (held-digits (shown ascii rec) f all-digits))
+
+-- zeros are digits, and count nothing
+zeros-digits : (xs : List ℕ) → zeros xs ≡ true → digits xs ≡ true
+unfolding only every digit digits _and_
+zeros-digits [] e = refl
+zeros-digits (x ∷ xs) e =
+    let q : x ≡ 0xF0 = eqb-true x 0xF0 (and-left (eqb x 0xF0) (zeros xs) e) in
+    rw (ap digit q) (zeros-digits xs (and-right (eqb x 0xF0) (zeros xs) e))
+
+zeros-count : (xs : List ℕ) → zeros xs ≡ true → numeral xs ≡ 0
+unfolding only every numeral numeralFrom
+zeros-count [] e = refl
+zeros-count (x ∷ xs) e =
+    let q : x ≡ 0xF0 = eqb-true x 0xF0 (and-left (eqb x 0xF0) (zeros xs) e) in
+    rw q (zeros-count xs (and-right (eqb x 0xF0) (zeros xs) e))
+
+-- an amount with zeros in its upper half
+module _ (ascii : Bool) (rec : List ℕ) (f : Field) (p : Has rec f) (w : f .width ≡ 20) (r s : Bool) (u : r ≡ zeros (held (shown ascii rec) (record { start = f .start; width = 10; justification = Fixed }))) (v : s ≡ digits (slice 10 20 (written (shown ascii rec) f))) (q : r ≡ true) (t : s ≡ true) where
+  upper : zeros (slice 0 10 (written (shown ascii rec) f)) ≡ true
+  unfolding held written corrected
+  upper =
+      let k : 10 ≤ f .width = omega arith in
+      ap zeros (take-take 10 (f .width) (drop (f .start - 1) (shown ascii rec)) k) ∙ sym u ∙ q
+
+  pub amount-low : (l : ℕ) → l ≡ numeral (slice 10 20 (written (shown ascii rec) f)) → record { high = 0; low = l } ≡ split (cents (held (shown ascii rec) f))
+  amount-low l e =
+      amount-stands ascii rec f p w true s (sym (zeros-digits (slice 0 10 (written (shown ascii rec) f)) upper)) v refl (rw t)
+      0 l (sym (zeros-count (slice 0 10 (written (shown ascii rec) f)) upper)) e
 
 -- cents of a field of twenty bytes have twenty digits
 pub cents-below : (xs : List ℕ) → length xs ≤ 20 → cents xs < 100000000000000000000

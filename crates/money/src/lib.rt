@@ -1,5 +1,6 @@
 // Exact amounts of money: two words, of ten decimal digits and more.
 use record::Field;
+use record::Justification;
 use record::Line;
 ghost use mathlib.Core.Path.{_≡_};
 ghost use lib.Dec.{eqb, ltb};
@@ -32,12 +33,24 @@ fn moved_amount(rec: &[u8], line: Line, field: Field) -> Amount
     Amount { high: 0, low: 0 }
 }
 
-// The amount in a field of twenty digits; zero where it is not twenty digits. The width is written out so that the loops are unrolled. What has to
-// be moved is lent anew, and at two places, so that it is a function of its own and nothing of it is kept on the stack where nothing is moved.
+// The amount in a field of twenty digits; zero where it is not twenty digits. Most amounts have zeros in their upper half, which count nothing. The
+// widths are written out so that the loops are unrolled. What has to be moved is lent anew, and at two places, so that it is a function of its own
+// and nothing of it is kept on the stack where nothing is moved.
 pub fn field_amount(rec: &[u8], line: Line, field: Field) -> Amount
     requires { ⌜ Has (now rec) field × (field .width ≡ 20) ⌝ }
     ensures { λ r. ⌜ r ≡ split (cents (held (seen line (now (rec .entry))) field)) ⌝ }
 {
+    let upper = Field {
+        start: field.start,
+        width: 10,
+        justification: Justification::Fixed,
+    };
+    if record::field_zeros(rec, line, upper) {
+        if record::written_digits(rec, line, field, 10, 20) {
+            let low = record::written_number(rec, line, field, 10, 20);
+            return Amount { high: 0, low };
+        }
+    }
     let number = line.number;
     let ascii = line.ascii;
     let start = field.start;

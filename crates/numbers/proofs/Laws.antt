@@ -14,7 +14,7 @@ little-length zero n = refl
 little-length (suc width) n = ap suc (little-length width (n / 256))
 
 -- every element is a byte
-pub Bytes : List ℕ → Type 0
+unfoldable pub Bytes : List ℕ → Type 0
 Bytes [] = Unit {0}
 Bytes (x ∷ xs) = (x < 256) × Bytes xs
 

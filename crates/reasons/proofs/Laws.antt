@@ -61,7 +61,7 @@ module _ (rec : List ℕ) (f : Field) (j : f .justification ≡ Fixed) (r u : Bo
   plain-told e = ap plainDate (held-fixed rec f j) ∙ sym e ∙ t
 
 -- a routing number is digits, and not blank
-module _ (ascii : Bool) (rec : List ℕ) (f : Field) (h : Has rec f) (w : 2 ≤ f .width) (r : Bool) (e : r ≡ routing (held (shown ascii rec) f)) where
+module _ (ascii : Bool) (rec : List ℕ) (f : Field) (h : Has rec f) (w : f .width ≡ 9) (r : Bool) (e : r ≡ routing (held (shown ascii rec) f)) where
   pub routing-blank : r ≡ true → blank (held (shown ascii rec) f) ≡ false
   unfolding routing
   routing-blank t = filled-digits (held (shown ascii rec) f) (omega (arith, held-length ascii rec f h)) (and-left _ _ (sym e ∙ t))

@@ -111,7 +111,7 @@ pub fn month_and_year(rec: &[u8], line: Line, field: Field) -> usize
 
 // A routing number: what is right is asked for first, since it is what files have.
 pub fn routing_number(rec: &[u8], line: Line, field: Field) -> usize
-    requires { ⌜ Has (now rec) field × (2 ≤ field .width) ⌝ }
+    requires { ⌜ Has (now rec) field × (field .width ≡ 9) ⌝ }
     ensures { λ r. ⌜ r ≡ routingNumber (held (seen line (now (rec .entry))) field) ⌝ }
 {
     if record::routing::field_routing(rec, line, field) {

@@ -28,12 +28,12 @@ unfolding order choose
 level x y xs ys h k = rw (le-ltb x y k, le-ltb y x h)
 
 -- which of the three
-data Side (x y : ℕ) : Type 0 where
+pub data Side (x y : ℕ) : Type 0 where
   less : x < y → Side x y
   more : y < x → Side x y
   same : x ≤ y → y ≤ x → Side x y
 
-side : (x y : ℕ) → Side x y
+pub side : (x y : ℕ) → Side x y
 side zero zero = same (omega arith) (omega arith)
 side zero (suc y) = less (omega arith)
 side (suc x) zero = more (omega arith)

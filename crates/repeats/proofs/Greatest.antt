@@ -20,50 +20,10 @@ use Rattle.record.specs.Tests.{alike}
 use Rattle.record.specs.Ordering.{order, isAfter}
 use Rattle.record.proofs.Held.{held-length}
 use Rattle.record.proofs.Same.{alike-equal}
-use Rattle.record.proofs.Orders.{before, after, level, Level, turn-before, turn-after, order-self, order-transitive}
+use Rattle.record.proofs.Orders.{turn-before, turn-after, order-self, order-transitive}
+use Rattle.words.proofs.Afters.{part-whole}
 use Rattle.tables.specs.Tables.{member}
 use Rattle.repeats.specs.Repeats.{Topped}
-
--- by the first byte
-above : (x y : ℕ) (xs ys : List ℕ) → y < x → isAfter (order (x ∷ xs) (y ∷ ys)) ≡ true
-unfolding isAfter
-above x y xs ys h = rw (after x y xs ys h)
-
-below : (x y : ℕ) (xs ys : List ℕ) → x < y → isAfter (order (x ∷ xs) (y ∷ ys)) ≡ false
-unfolding isAfter
-below x y xs ys h = rw (before x y xs ys h)
-
--- what is left from i on decides
-module _ (xs ys : List ℕ) (n : length ys ≡ length xs) (i : ℕ) (l : Level xs ys i) where
-  module _ (h : i < length xs) where
-    pub after-apart : (getD xs i 0 ≡ getD ys i 0 → ⊥) → ltb (getD ys i 0) (getD xs i 0) ≡ isAfter (order xs ys)
-    unfolding Level
-    after-apart d =
-        let b : i < length ys = omega arith in
-        go (ltb (getD ys i 0) (getD xs i 0)) refl ∙ sym (ap isAfter l ∙ rw (drop-cons xs i 0, drop-cons ys i 0))
-      where
-        go : (t : Bool) → ltb (getD ys i 0) (getD xs i 0) ≡ t → ltb (getD ys i 0) (getD xs i 0) ≡ isAfter (order (getD xs i 0 ∷ drop (suc i) xs) (getD ys i 0 ∷ drop (suc i) ys))
-        go true e = e ∙ sym (above _ _ _ _ (ltb-true _ _ e))
-        go false e = e ∙ sym (below _ _ _ _ (omega (arith, ltb-false (getD ys i 0) (getD xs i 0) e)))
-
-    pub after-next : getD xs i 0 ≡ getD ys i 0 → Level xs ys (i + 1)
-    unfolding Level
-    after-next t =
-        let b : i < length ys = omega arith in
-        l ∙ rw (add-one, drop-cons xs i 0, drop-cons ys i 0) (level _ _ _ _ (omega arith) (omega arith))
-
-  pub after-end : length xs ≤ i → false ≡ isAfter (order xs ys)
-  unfolding Level order isAfter
-  after-end h =
-      let b : length ys ≤ i = omega arith in
-      sym (ap isAfter l ∙ rw (drop-of-length-le xs, drop-of-length-le ys))
-
--- a part that is empty or a value, and as long as the value, is the value
-part-whole : (b : Bool) (xs part : List ℕ) → part ≡ choose b [] xs → length part ≡ length xs → part ≡ xs
-unfolding choose
-part-whole true [] part e n = e
-part-whole true (x ∷ xs) part e n = absurd (omega (arith, ap length e))
-part-whole false xs part e n = e
 
 -- what a field holds, read in its part or in a copy
 module _ (ascii : Bool) (rec : List ℕ) (f : Field) (greatest : List ℕ) where

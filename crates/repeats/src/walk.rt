@@ -88,23 +88,6 @@ pub(crate) fn is_repeated(file: &[u8], first: Line, place: usize, sort: Sort) ->
     false
 }
 
-// The number stands after the greatest: the first byte that differs decides.
-fn is_above(number: &[u8], greatest: &[u8]) -> bool
-    requires { ⌜ length (now greatest) ≡ length (now number) ⌝ }
-    ensures { λ r. ⌜ r ≡ isAfter (order (now (number .entry)) (now (greatest .entry))) ⌝ }
-{
-    let mut i: usize = 0;
-    while i < number.len() {
-        let byte = number[i];
-        let other = greatest[i];
-        if byte != other {
-            return other < byte;
-        }
-        i += 1;
-    }
-    false
-}
-
 // What the field holds stands after the greatest. It is read where it stands if it can be.
 pub(crate) fn stands_after(rec: &[u8], line: Line, field: Field, greatest: &[u8]) -> bool
     requires { ⌜ Has (now rec) field × (field .width ≤ 20) × (length (now greatest) ≡ field .width) ⌝ }
@@ -113,12 +96,12 @@ pub(crate) fn stands_after(rec: &[u8], line: Line, field: Field, greatest: &[u8]
     let width = field.width;
     let part = record::field_part(rec, line, field);
     if part.len() == width {
-        return is_above(part, greatest);
+        return words::is_after(part, greatest);
     }
     let mut copy = [0u8; 20];
     let own = &mut copy[..width];
     record::copy_field(rec, line, field, own);
-    is_above(own, greatest)
+    words::is_after(own, greatest)
 }
 
 // The number of the record at the place stands after the greatest.

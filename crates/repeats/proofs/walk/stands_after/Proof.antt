@@ -8,8 +8,8 @@ use Rattle.repeats.proofs.walk.stands_after.Tie as tie
 field-part-requires : tie.Need-field-part-requires
 field-part-requires c κs = search needs
 
-is-above-requires : tie.Need-is-above-requires
-is-above-requires c κs = search needs
+is-after-requires : tie.Need-is-after-requires
+is-after-requires c κs = search needs
 
 returns : tie.Need-returns
 returns c = search (needs, part-after)
@@ -23,8 +23,8 @@ slice-aggregate-own c = sym (length-take-le _ _ (search needs))
 copy-field-requires : tie.Need-copy-field-requires
 copy-field-requires c κs = (search needs, length-take-le _ _ (search needs))
 
-is-above-requires-2 : tie.Need-is-above-requires-2
-is-above-requires-2 c κs = search (needs, copy-wide)
+is-after-requires-2 : tie.Need-is-after-requires-2
+is-after-requires-2 c κs = search (needs, copy-wide)
 
 returns-2 : tie.Need-returns-2
 returns-2 c = search (needs, copy-after)
@@ -34,10 +34,10 @@ stands-after-spec =
     tie.close
     (tie.spec
     field-part-requires
-    is-above-requires
+    is-after-requires
     returns
     array-borrow-prefix-copy
     slice-aggregate-own
     copy-field-requires
-    is-above-requires-2
+    is-after-requires-2
     returns-2)

@@ -1,0 +1,3 @@
+mod Weights
+pub mod Afters
+pub mod Unique
