@@ -1,3 +1,4 @@
 pub mod CodePage
 pub mod Shown
+mod Figures
 pub mod Unique

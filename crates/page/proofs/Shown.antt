@@ -102,13 +102,25 @@ module _ (before bytes : List ℕ) (i : ℕ) (c : Replaced before bytes i) where
   unfolding front
   replaced-length = rw (c .done) (simp (length-append, length-drop) (omega (arith, front-length, c .within)))
 
+  module _ (h : i < length bytes) where
+    bound : i < length before
+    bound = omega (arith, h, replaced-length)
+
+    apart : bytes ≡ front ++ getD before i 0 ∷ drop (suc i) before
+    unfolding front
+    apart = c .done ∙ ap (λ (xs : List ℕ). front ++ xs) (drop-cons before i 0 bound)
+
+    -- the next byte is as it was
+    pub replaced-left : getD bytes i 0 ≡ getD before i 0
+    replaced-left = ap (λ (xs : List ℕ). getD xs i 0) apart ∙ ap (λ (n : ℕ). getD (front ++ getD before i 0 ∷ drop (suc i) before) n 0) (sym front-length) ∙ at-seam front (drop (suc i) before) (getD before i 0)
+
   pub replaced-next : (y : ℕ) → i < length bytes → y ≡ ebcdic (getD bytes i 0) → Replaced before (set bytes i y) (i + 1)
   unfolding front
   replaced-next y h t =
-      let l : i < length before = omega (arith, replaced-length) in
+      let l = bound h in
       let rest = drop (suc i) before in
-      let d : bytes ≡ front ++ getD before i 0 ∷ rest = c .done ∙ ap (λ (xs : List ℕ). front ++ xs) (drop-cons before i 0 l) in
-      let b : getD bytes i 0 ≡ getD before i 0 = ap (λ (xs : List ℕ). getD xs i 0) d ∙ ap (λ (n : ℕ). getD (front ++ getD before i 0 ∷ rest) n 0) (sym front-length) ∙ at-seam front rest (getD before i 0) in
+      let d = apart h in
+      let b = replaced-left h in
       let e : set bytes i y ≡ front ++ y ∷ rest =
       ap (λ (xs : List ℕ). set xs i y) d ∙ ap (λ (n : ℕ). set (front ++ getD before i 0 ∷ rest) n y) (sym front-length) ∙ set-seam front rest (getD before i 0) y in
       let s : shown true (take (suc i) before) ≡ front ++ y ∷ [] =

@@ -47,6 +47,11 @@ Printable b = (0x20 ≤ b) × (b ≤ 0x7E)
 unfoldable pub ebcdic : ℕ → ℕ
 ebcdic b = getD (replicate 0x20 0x3F ++ codePage) b 0x3F
 
+-- every byte is a digit, as ASCII files send it
+unfoldable pub sentDigits : List ℕ → Bool
+sentDigits [] = true
+sentDigits (x ∷ xs) = (leb 0x30 x && leb x 0x39) && sentDigits xs
+
 -- the characters of these rows land so
 abbrev pub Lands : List Row → Type 0
 Lands [] = Unit {0}

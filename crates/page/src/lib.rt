@@ -1,7 +1,7 @@
 // ASCII files (02 W2): which they are, and what their bytes become.
 ghost use mathlib.Core.Path.{_≡_};
 ghost use mathlib.Core.Bool.{true};
-ghost use Rattle.page.specs.CodePage.{codePage, ebcdic, shown, isAscii};
+ghost use Rattle.page.specs.CodePage.{sentDigits, codePage, ebcdic, shown, isAscii};
 
 // The bytes of the printable characters, hex 20 to 7E, in code page 037.
 const CODE_PAGE: [u8; 95] = [
@@ -130,10 +130,45 @@ pub fn translate(byte: u8) -> u8
     entry_of(&table, byte)
 }
 
-// Translates each of these bytes, where they stand, by a table that is built once for all of them.
+// Every byte is a digit.
+fn are_digits(bytes: &[u8]) -> bool
+    ensures { λ r. ⌜ r ≡ sentDigits (now (bytes .entry)) ⌝ }
+{
+    let mut i: usize = 0;
+    while i < bytes.len() {
+        let byte = bytes[i];
+        if byte < 0x30 {
+            return false;
+        }
+        if 0x39 < byte {
+            return false;
+        }
+        i += 1;
+    }
+    true
+}
+
+// Translates digits, where they stand.
+fn shift_digits(bytes: &mut [u8])
+    requires { ⌜ sentDigits (now bytes) ≡ true ⌝ }
+    ensures { λ r. ⌜ now (bytes .exit) ≡ shown true (now (bytes .entry)) ⌝ }
+{
+    let mut i: usize = 0;
+    while i < bytes.len() {
+        let byte = bytes[i];
+        bytes[i] = byte + 0xC0;
+        i += 1;
+    }
+}
+
+// Translates each of these bytes, where they stand: digits without the table, others by a table that is built once for all of them.
 pub fn translate_all(bytes: &mut [u8])
     ensures { λ r. ⌜ now (bytes .exit) ≡ shown true (now (bytes .entry)) ⌝ }
 {
+    if are_digits(bytes) {
+        shift_digits(bytes);
+        return;
+    }
     let table = CODE_PAGE;
     let mut i: usize = 0;
     while i < bytes.len() {
