@@ -3,16 +3,17 @@
 use mathlib.Core.Path.{_≡_, refl, sym, ap, _∙_}
 use mathlib.Core.Bool.{Bool, true, false, true≢false}
 use mathlib.Core.List.{List, [], _∷_, _++_, append-nil, map-append}
-use Prim.Native.Nat.{ℕ, zero, suc, _+_, _-_, _≤_, _<_, min}
+use Prim.Native.Nat.{ℕ, zero, suc, _+_, _-_, _≤_, _<_}
 use native.Mathlib.Nat.{le-of-suc-le-suc, not-suc-le-zero}
 use native.Mathlib.Omega.{arith}
 use types.Run.{OneOf, miss}
 use denote.Enum.Declared.{tagOf}
 use lib.Dec.{eqb}
-use borrow.Author.Tests.{not-true, not-false, eqb-true}
+use borrow.Author.Tests.{not-true, not-false}
 use lib.ListN.{length, take, drop, getD, replicate, length-append, length-replicate, getD-replicate, List·getD-eq-default}
 use lib.Seq.{slice, drop-drop, take-take, take-all, take-nil}
 use Rattle.page.specs.CodePage.{codePage, ebcdic, shown}
+use Rattle.record.specs.declared.Order.{Order}
 use Rattle.record.specs.declared.Justification.{Justification}
 use Rattle.record.specs.declared.Justification.the-variants.{Text, Number, Right, Fixed}
 use Rattle.record.specs.declared.place.Place.{Place}
@@ -22,12 +23,12 @@ use Rattle.record.specs.declared.moved.Test.the-variants.{Zero, Digit, F
 use Rattle.record.specs.Choice.{_and_, choose}
 use Rattle.record.specs.Correction.{fromFirst, upToLast, trimmed, movedLeft, movedRight, zeroPadded, corrected}
 use Rattle.record.specs.Place.{Within, value, sent}
-use Rattle.record.specs.Moved.{filled, inFront, inBack, inPlace, partOf, leftOf, rightOf, blanks, movedSent, movedValue, sentAlike, Fits, Found, testOf}
+use Rattle.record.specs.Moved.{filled, inFront, inBack, inPlace, partOf, leftOf, rightOf, blanks, movedSent, movedValue, Fits, Found, testOf}
 use Rattle.record.specs.Tests.{every, only, solid, blank, digit, digits}
 use Rattle.record.specs.Numeral.{numeral}
+use Rattle.record.specs.Ordering.{order}
 use Rattle.page.proofs.Shown.{shownByte, shown-plain, shown-length, shown-take, shown-drop, shown-at}
-use Rattle.record.proofs.Chain.{and-no, and-yes, and-left, and-right}
-use Rattle.record.proofs.Orders.{Level, level-next}
+use Rattle.record.proofs.Chain.{and-left, and-right}
 use Rattle.record.proofs.Every.{value-length, whole, digits-part}
 use Rattle.record.proofs.Sent.{sent-length, value-sent}
 use Rattle.record.proofs.Parts.{at-first, at-second, at-third, every-whole-part, every-blank-behind, zeros-count-nothing}
@@ -288,32 +289,6 @@ module _ (rec : List ℕ) (m : Moved) (f : Fits rec m) where
   pub moved-copied-shown : (copy after : List ℕ) → m .kept .ascii ≡ true → copy ≡ movedSent rec m → after ≡ shown true copy → after ≡ movedValue rec m
   moved-copied-shown copy after a e t = t ∙ ap (shown true) e ∙ sym (ap (λ (c : Bool). shown c (movedSent rec m)) a) ∙ moved-shown rec m
 
--- whether bytes of ASCII were sent alike, and that they are seen alike then
-module _ (rec other : List ℕ) (m t : Moved) (i : ℕ) where
-  pub alike-told : (x y : ℕ) (r : Bool) → m .kept .ascii ≡ true → t .kept .ascii ≡ true → x ≡ getD (movedSent rec m) i 0 → y ≡ getD (movedSent other t) i 0 → r ≡ eqb x y → r ≡ sentAlike rec m other t i
-  unfolding sentAlike
-  alike-told x y r a b ex ey e = and-yes _ _ r a (and-yes _ _ r b (e ∙ (λ j. eqb (ex j) (ey j))))
-
-  pub alike-here : m .kept .ascii ≡ false → false ≡ sentAlike rec m other t i
-  unfolding sentAlike
-  alike-here a = and-no _ _ a
-
-  pub alike-there : m .kept .ascii ≡ true → t .kept .ascii ≡ false → false ≡ sentAlike rec m other t i
-  unfolding sentAlike
-  alike-there a b = and-yes _ _ false a (and-no _ _ b)
-
-  alike-seen : Fits rec m → Fits other t → i < m .width → i < t .width → sentAlike rec m other t i ≡ true → getD (movedValue rec m) i 0 ≡ getD (movedValue other t) i 0
-  unfolding sentAlike
-  alike-seen f g h k e =
-      let there = and-right (m .kept .ascii) _ e in
-      let same : getD (movedSent rec m) i 0 ≡ getD (movedSent other t) i 0 = eqb-true _ _ (and-right (t .kept .ascii) _ there) in
-      seen-moved rec m f i (getD (movedSent rec m) i 0) h refl
-      ∙ (λ j. shownByte (and-left (m .kept .ascii) _ e j) (same j))
-      ∙ sym (seen-moved other t g i (getD (movedSent other t) i 0) k refl ∙ ap (λ (c : Bool). shownByte c (getD (movedSent other t) i 0)) (and-left (t .kept .ascii) _ there))
-
-  pub alike-level : (s : ℕ) (r : Bool) → Fits rec m → Fits other t → s ≡ min (m .width) (t .width) → i < s → r ≡ sentAlike rec m other t i → r ≡ true → Level (movedValue rec m) (movedValue other t) i → Level (movedValue rec m) (movedValue other t) (i + 1)
-  alike-level s r f g e h a y l = level-next (movedValue rec m) (movedValue other t) i s (m .width) (t .width) (moved-length rec m f) (moved-length other t g) e _ _ h refl refl (alike-seen f g (omega arith) (omega arith) (sym a ∙ y)) l
-
 -- every byte of a moved value: zeros pass every test, and blanks none
 test-zero : (t : Test) → testOf t 0xF0 ≡ true
 unfolding testOf digit _and_
@@ -382,3 +357,15 @@ passes-digit rec p t r w o e = rw o (e ∙ ap digits (whole rec p (p .width) w r
 pub passes-filled : (t : Test) (xs : List ℕ) (r : Bool) → t ≡ Filled → r ≡ solid xs → r ≡ every (testOf t) xs
 unfolding testOf solid
 passes-filled t xs r o e = rw o e
+
+-- both are ASCII
+module _ (a b r : Bool) (e : r ≡ (a and b)) (h : r ≡ true) where
+  pub ascii-here : a ≡ true
+  ascii-here = and-left a b (sym e ∙ h)
+
+  pub ascii-there : b ≡ true
+  ascii-there = and-right a b (sym e ∙ h)
+
+-- the order of two values that stand where they belong
+pub order-stays : (j k : Justification) (xs ys : List ℕ) (t u : Bool) (o : Order) → t ≡ inPlace j xs → t ≡ true → u ≡ inPlace k ys → u ≡ true → o ≡ order xs ys → o ≡ order (corrected j xs) (corrected k ys)
+order-stays j k xs ys t u o p q r s e = e ∙ rw (corrected-stays j xs (sym p ∙ q), corrected-stays k ys (sym r ∙ s))

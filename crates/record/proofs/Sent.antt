@@ -24,7 +24,7 @@ use Rattle.record.specs.Tests.{every, only, solid, digit, digits, valid,
 use Rattle.record.proofs.Chain.{and-left, and-right, and-true}
 use Rattle.record.proofs.Every.{value-length, above-min, and-swap, digit-in, digit-range, valid-is}
 use Rattle.record.proofs.Numbers.{digit-at}
-use Rattle.record.proofs.Orders.{Level, level-next, order-equal, before-not, after-not}
+use Rattle.record.proofs.Orders.{Level, level-before, level-after, level-next, order-equal, before-not, after-not}
 use Rattle.record.proofs.Same.{alike-equal, alike-self}
 
 pub value-sent : (rec : List ℕ) (p : Place) → value rec p ≡ shown (p .ascii) (sent rec p)
@@ -48,6 +48,11 @@ ascii-sent : (rec : List ℕ) (p : Place) → p .ascii ≡ true → value rec p 
 unfolding shown
 ascii-sent rec p e = value-sent rec p ∙ rw e
 
+ascii-at : (rec : List ℕ) (p : Place) (i : ℕ) → Within rec p → p .ascii ≡ true → i < p .width → ebcdic (getD (sent rec p) i 0) ≡ getD (value rec p) i 0
+ascii-at rec p i w a h =
+    let n : i < length (sent rec p) = omega (arith, sent-length rec p w) in
+    sym (ap (λ (xs : List ℕ). getD xs i 0) (value-sent rec p) ∙ shown-at (p .ascii) (sent rec p) i n ∙ rw a)
+
 -- a test of translated bytes
 every-map : (q : ℕ → Bool) (xs : List ℕ) → every q (map ebcdic xs) ≡ every (λ (x : ℕ). q (ebcdic x)) xs
 unfolding every
@@ -64,6 +69,28 @@ pub sent-level : (rec : List ℕ) (p : Place) (other : List ℕ) (q : Place) (i 
     → x ≡ getD (sent rec p) i 0 → y ≡ getD (sent other q) i 0 → x ≡ y → Level (sent rec p) (sent other q) i → Level (sent rec p) (sent other q) (i + 1)
 sent-level rec p other q i s x y w v e h ex ey k l =
     level-next (sent rec p) (sent other q) i s (p .width) (q .width) (sent-length rec p w) (sent-length other q v) e x y h ex ey k l
+
+-- two values in ASCII, byte by byte as they were sent
+module _ (rec : List ℕ) (p : Place) (other : List ℕ) (q : Place) (i s x y : ℕ) (w : Within rec p) (v : Within other q) (a : p .ascii ≡ true) (b : q .ascii ≡ true) (e : s ≡ min (p .width) (q .width)) (h : i < s) (ex : x ≡ getD (sent rec p) i 0) (ey : y ≡ getD (sent other q) i 0) (l : Level (value rec p) (value other q) i) where
+  seen-here : ebcdic x ≡ getD (value rec p) i 0
+  seen-here = ap ebcdic ex ∙ ascii-at rec p i w a (omega arith)
+
+  seen-there : ebcdic y ≡ getD (value other q) i 0
+  seen-there = ap ebcdic ey ∙ ascii-at other q i v b (omega arith)
+
+  -- bytes that were sent alike are seen alike
+  pub ascii-alike : x ≡ y → Level (value rec p) (value other q) (i + 1)
+  ascii-alike k = level-next (value rec p) (value other q) i s (p .width) (q .width) (value-length rec p w) (value-length other q v) e (ebcdic x) (ebcdic y) h seen-here seen-there (ap ebcdic k) l
+
+  module _ (c d : ℕ) (ec : c ≡ ebcdic x) (ed : d ≡ ebcdic y) where
+    pub ascii-next : c ≡ d → Level (value rec p) (value other q) (i + 1)
+    ascii-next k = level-next (value rec p) (value other q) i s (p .width) (q .width) (value-length rec p w) (value-length other q v) e c d h (ec ∙ seen-here) (ed ∙ seen-there) k l
+
+    pub ascii-before : c < d → Before ≡ order (value rec p) (value other q)
+    ascii-before k = level-before (value rec p) (value other q) i s (p .width) (q .width) (value-length rec p w) (value-length other q v) e c d h (ec ∙ seen-here) (ed ∙ seen-there) k l
+
+    pub ascii-after : (c ≡ d → ⊥) → d ≤ c → After ≡ order (value rec p) (value other q)
+    ascii-after u k = level-after (value rec p) (value other q) i s (p .width) (q .width) (value-length rec p w) (value-length other q v) e c d h (ec ∙ seen-here) (ed ∙ seen-there) u k l
 
 -- the place of all bytes
 pub whole-of : (bytes : List ℕ) → WholeOf bytes (record { start = 0; width = length bytes; ascii = false })

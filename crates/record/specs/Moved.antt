@@ -54,11 +54,6 @@ unfoldable pub movedSent : List ℕ → Moved → List ℕ
 movedSent rec m =
     replicate (m .zeros) (choose (m .kept .ascii) 0x30 0xF0) ++ (sent rec (m .kept) ++ replicate (blanks m) (choose (m .kept .ascii) 0x20 0x40))
 
--- both are ASCII, and their bytes at a place were sent alike
-unfoldable pub sentAlike : List ℕ → Moved → List ℕ → Moved → ℕ → Bool
-sentAlike rec m other there i =
-    m .kept .ascii and (there .kept .ascii and eqb (getD (movedSent rec m) i 0) (getD (movedSent other there) i 0))
-
 -- its part lies in the record, and zeros and part in its width
 pub record Fits (rec : List ℕ) (m : Moved) : Type 0 where
   pub within : Within rec (m .kept)

@@ -14,7 +14,7 @@ ghost use lib.Seq.{slice};
 ghost use Rattle.record.specs.declared.Justification.the-variants.{Number};
 ghost use Rattle.record.specs.Correction.{fromFirst, upToLast, corrected};
 ghost use Rattle.record.specs.Place.{Within, value};
-ghost use Rattle.record.specs.Moved.{filled, inFront, inBack, inPlace, Fits, movedSent, movedValue, Found, partOf, leftOf, rightOf, sentAlike, testOf};
+ghost use Rattle.record.specs.Moved.{filled, inFront, inBack, inPlace, Fits, movedSent, movedValue, Found, partOf, leftOf, rightOf, testOf};
 ghost use Rattle.record.specs.Tests.{every, digits};
 ghost use Rattle.record.specs.Numeral.{numeral};
 ghost use Rattle.record.specs.Ordering.{order};
@@ -302,21 +302,6 @@ pub(crate) fn copy(rec: &[u8], place: Place, justification: Justification, to: &
     }
 }
 
-// Both values are ASCII, and their bytes at `i` were sent alike: what they are translated to need not be known.
-fn is_sent_alike(rec: &[u8], moved: Moved, other: &[u8], there: Moved, i: usize) -> bool
-    requires { ⌜ Fits (now rec) moved × Fits (now other) there × (i < moved .width) × (i < there .width) ⌝ }
-    ensures { λ r. ⌜ r ≡ sentAlike (now (rec .entry)) moved (now (other .entry)) there i ⌝ }
-{
-    let kept = moved.kept;
-    if kept.ascii {
-        let beside = there.kept;
-        if beside.ascii {
-            return sent_byte(rec, moved, i) == sent_byte(other, there, i);
-        }
-    }
-    false
-}
-
 // How the first value stands to the second in the order of bytes.
 fn shown_order(rec: &[u8], moved: Moved, other: &[u8], there: Moved) -> Order
     requires { ⌜ Fits (now rec) moved × Fits (now other) there ⌝ }
@@ -327,19 +312,15 @@ fn shown_order(rec: &[u8], moved: Moved, other: &[u8], there: Moved) -> Order
     let shared = place::shorter(n, m);
     let mut i = 0;
     while i < shared {
-        if is_sent_alike(rec, moved, other, there, i) {
-            i += 1;
-        } else {
-            let a = byte(rec, moved, i);
-            let b = byte(other, there, i);
-            if a != b {
-                if a < b {
-                    return Order::Before;
-                }
-                return Order::After;
+        let a = byte(rec, moved, i);
+        let b = byte(other, there, i);
+        if a != b {
+            if a < b {
+                return Order::Before;
             }
-            i += 1;
+            return Order::After;
         }
+        i += 1;
     }
     if n < m {
         return Order::Before;
@@ -350,7 +331,7 @@ fn shown_order(rec: &[u8], moved: Moved, other: &[u8], there: Moved) -> Order
     Order::Same
 }
 
-// The same of values that are found first.
+// The same of values that are found first, unless both are ASCII and stand where they belong.
 pub(crate) fn compare(
     rec: &[u8],
     place: Place,
@@ -362,6 +343,13 @@ pub(crate) fn compare(
     requires { ⌜ Within (now rec) place × Within (now other) there ⌝ }
     ensures { λ r. ⌜ r ≡ order (corrected justification (value (now (rec .entry)) place)) (corrected «other_justification» (value (now (other .entry)) there)) ⌝ }
 {
+    if place::are_ascii(place, there) {
+        if stands(rec, place, justification) {
+            if stands(other, there, other_justification) {
+                return place::ascii_order(rec, place, other, there);
+            }
+        }
+    }
     let moved = find(rec, place, justification);
     let beside = find(other, there, other_justification);
     shown_order(rec, moved, other, beside)

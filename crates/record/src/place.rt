@@ -2,6 +2,7 @@
 use crate::Field;
 use crate::Line;
 use crate::Order;
+use page::translate;
 use page::translate_all;
 ghost use mathlib.Core.Path.{_≡_};
 ghost use mathlib.Core.Bool.{true, not};
@@ -12,7 +13,7 @@ ghost use lib.ListN.{length, getD};
 ghost use lib.Seq.{slice};
 ghost use Rattle.record.specs.Value.{Has};
 ghost use Rattle.page.specs.CodePage.{twins};
-ghost use Rattle.record.specs.Choice.{choose};
+ghost use Rattle.record.specs.Choice.{_and_, choose};
 ghost use Rattle.record.specs.Place.{Within, value, sent, near, leastPrintable, PlaceOf, WholeOf};
 ghost use Rattle.record.specs.Tests.{only, every, digits, solid, valid, alike};
 ghost use Rattle.record.specs.Numeral.{numeral};
@@ -335,6 +336,51 @@ pub(crate) fn sent_order(rec: &[u8], place: Place, other: &[u8], there: Place) -
             return Order::After;
         }
         i += 1;
+    }
+    if n < m {
+        return Order::Before;
+    }
+    if m < n {
+        return Order::After;
+    }
+    Order::Same
+}
+
+// Both are ASCII.
+pub(crate) fn are_ascii(place: Place, there: Place) -> bool
+    ensures { λ r. ⌜ r ≡ (place .ascii and there .ascii) ⌝ }
+{
+    if place.ascii {
+        return there.ascii;
+    }
+    false
+}
+
+// How the first value stands to the second in the order of bytes, both ASCII: bytes that were sent alike are not translated.
+pub(crate) fn ascii_order(rec: &[u8], place: Place, other: &[u8], there: Place) -> Order
+    requires { ⌜ Within (now rec) place × Within (now other) there × (place .ascii ≡ true) × (there .ascii ≡ true) ⌝ }
+    ensures { λ r. ⌜ r ≡ order (value (now (rec .entry)) place) (value (now (other .entry)) there) ⌝ }
+{
+    let n = place.width;
+    let m = there.width;
+    let shared = shorter(n, m);
+    let mut i = 0;
+    while i < shared {
+        let sent = sent_byte(rec, place, i);
+        let beside = sent_byte(other, there, i);
+        if sent == beside {
+            i += 1;
+        } else {
+            let a = translate(sent);
+            let b = translate(beside);
+            if a != b {
+                if a < b {
+                    return Order::Before;
+                }
+                return Order::After;
+            }
+            i += 1;
+        }
     }
     if n < m {
         return Order::Before;

@@ -2,7 +2,7 @@ use borrow.Author.Needs.{needs}
 use Prim.Native.Nat.{_≤_, _-_}
 use Rattle.record.specs.Moved.{movedValue}
 use Rattle.record.proofs.Orders.{Level, level-none, level-before, level-after, level-next, end-before, end-after, end-same}
-use Rattle.record.proofs.Moving.{moved-length, alike-level}
+use Rattle.record.proofs.Moving.{moved-length}
 use Rattle.record.proofs.moved.shown_order.Statement.{statement}
 use Rattle.record.proofs.moved.shown_order.Tie as tie
 
@@ -18,18 +18,6 @@ shorter-requires c κs = search needs
 loop-holds : tie.Need-loop-holds Inv-loop μ-loop
 loop-holds c = search (needs, level-none)
 
-is-sent-alike-requires : tie.Need-is-sent-alike-requires Inv-loop μ-loop
-is-sent-alike-requires c κs = search needs
-
-add-i : tie.Need-add-i Inv-loop μ-loop
-add-i c = search needs
-
-loop-less : tie.Need-loop-less Inv-loop μ-loop
-loop-less c = search needs
-
-loop-again : tie.Need-loop-again Inv-loop μ-loop
-loop-again c = search (needs, alike-level)
-
 byte-requires : tie.Need-byte-requires Inv-loop μ-loop
 byte-requires c κs = search needs
 
@@ -42,14 +30,14 @@ returns c = search (needs, level-before, moved-length)
 returns-2 : tie.Need-returns-2 Inv-loop μ-loop
 returns-2 c = search (needs, level-after, moved-length)
 
-add-i-2 : tie.Need-add-i-2 Inv-loop μ-loop
-add-i-2 c = search needs
+add-i : tie.Need-add-i Inv-loop μ-loop
+add-i c = search needs
 
-loop-less-2 : tie.Need-loop-less-2 Inv-loop μ-loop
-loop-less-2 c = search needs
+loop-less : tie.Need-loop-less Inv-loop μ-loop
+loop-less c = search needs
 
-loop-again-2 : tie.Need-loop-again-2 Inv-loop μ-loop
-loop-again-2 c = let same = level-next _ _ _ _ _ _ (moved-length _ _ (search needs)) (moved-length _ _ (search needs)) (c .before .before .before .before .before .before .before .shorter .ensures) _ _ (search needs) (c .before .before .byte .ensures) (c .before .byte2 .ensures) (search needs) (c .before .before .before .before .before .before .loop .inv .1) in search needs
+loop-again : tie.Need-loop-again Inv-loop μ-loop
+loop-again c = search (needs, level-next, moved-length)
 
 returns-3 : tie.Need-returns-3 Inv-loop μ-loop
 returns-3 c = search (needs, end-before, moved-length)
@@ -68,17 +56,13 @@ shown-order-spec =
     μ-loop
     shorter-requires
     loop-holds
-    is-sent-alike-requires
-    add-i
-    loop-less
-    loop-again
     byte-requires
     byte-requires-2
     returns
     returns-2
-    add-i-2
-    loop-less-2
-    loop-again-2
+    add-i
+    loop-less
+    loop-again
     returns-3
     returns-4
     returns-5)
