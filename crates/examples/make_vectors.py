@@ -398,6 +398,14 @@ add("a low byte in an ID that nests: 7", [N], at(DETAIL, 22, 22, b"\0"), at(DX, 
 add("a low byte in one ID of two: 5", [N], at(DX, 22, 22, b"\0"), expect=500004)
 add("a low byte in a record code: 5", [N], at(DX, 2, 2, b"\x3F"), expect=500004)
 
+# 01 File answers, 7: two times eight records, and two behind them
+LONG = [("N", 1, 6, 5, 2)]  # FH, BN, DN, DX 4 to 9, DT 10 to 14, DP 15 and 16, BT, FT
+LOW_FILLERS = [at(rec, 850, 850, b"\x3F") for rec in (3, 13)]
+for rec, start in [(1, 3), (7, 23), (8, 23), (9, 23), (10, 23), (15, 23), (16, 23), (17, 3), (18, 3)]:
+    add("3F in record %d of 18" % rec, LONG, at(rec, start, start, b"\x3F"), expect=700000 + rec)
+    add("3F in fillers, and in record %d of 18" % rec, LONG, LOW_FILLERS, at(rec, start, start, b"\x3F"), expect=700000 + rec)
+    add("3F in the filler of record %d of 18" % rec, LONG, at(rec, 850, 850, b"\x3F"), expect=SOUND)
+
 # 01 Slips: the 3F rule applied to ASCII
 add("EBCDIC digits F0 to F9 are accepted", [N], paid([N], {(0, 0): 1234567890}), expect=SOUND)
 add("an amount in ASCII digits", [N], at(DETAIL, 23, 42, b"0" * 17 + b"100"), expect=700003)

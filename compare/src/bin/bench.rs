@@ -593,6 +593,16 @@ fn with_ids_apart(mut file: Vec<u8>) -> Vec<u8> {
     file
 }
 
+/// 00 in every filler, so that no two records in a row are free of low bytes.
+fn with_low_fillers(mut file: Vec<u8>) -> Vec<u8> {
+    for record in file.chunks_exact_mut(layout::RECORD) {
+        for field in fields_of(code_of(record)).filter(|field| layout::FILLERS.contains(field)) {
+            record[layout::place(field)].fill(0);
+        }
+    }
+    file
+}
+
 /// A file, the report of each judge for it, and the best times of the bare scan, the independent judge and the proved one.
 struct Contest<'a> {
     file: &'a [u8],
@@ -727,7 +737,7 @@ fn main() {
             ("(f) batches of 100 payments", &|| batches_of_hundred(records), &small),
         ];
         // Each with the batches that are rejected.
-        let hostile: [(&str, Make, usize); 21] = [
+        let hostile: [(&str, Make, usize); 23] = [
             (
                 "(c) with schedule numbers shuffled",
                 &|| batches_of_four(records, &shuffled(records)),
@@ -752,6 +762,16 @@ fn main() {
                 "(c) shuffled, every second schedule number a repeat: every second batch rejected",
                 &|| batches_of_four(records, &every_second_repeats(records)),
                 batches / 2,
+            ),
+            (
+                "(a) with 00 in every filler",
+                &|| with_low_fillers(one_batch(records, &ids(ascending(records)))),
+                0,
+            ),
+            (
+                "(c) with 00 in every filler",
+                &|| with_low_fillers(batches_of_four(records, &ascending(records))),
+                0,
             ),
             ("(a) with IDs descending", &|| one_batch(records, &ids(descending(records))), 0),
             (

@@ -1,2 +1,2 @@
-mod Stretches
+pub mod Stretches
 pub mod Unique

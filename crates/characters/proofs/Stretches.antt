@@ -5,6 +5,7 @@ use mathlib.Core.Bool.{Bool, true, false}
 use mathlib.Core.List.{List, [], _∷_, _++_}
 use Prim.Native.Nat.{ℕ, _+_, _-_}
 use lib.Dec.{eqb, leb}
+use lib.ListN.{drop}
 use borrow.Author.Tests.{eqb-true}
 use Rattle.record.specs.declared.Field.{Field}
 use Rattle.record.specs.declared.codes.Code.{Code}
@@ -15,6 +16,8 @@ use Rattle.record.specs.Value.{written}
 use Rattle.record.specs.Tests.{every, valid}
 use Rattle.record.specs.Codes.{codeOf}
 use Rattle.record.specs.Layout.{Row, layout, Record as Kind}
+use Rattle.record.proofs.Chain.{or-true}
+use Rattle.record.proofs.Every.{every-take, every-drop}
 use Rattle.record.proofs.Held.{written-beside}
 use Rattle.nesting.specs.Division.{Record}
 use Rattle.characters.specs.Characters.{rowsOf, cleanIn, clean}
@@ -111,3 +114,17 @@ last v false h = h
 pub coded : (r : Record) (c d : Code) (v : Bool) → c ≡ codeOf r → c ≡ d → v ≡ cleanIn r (rowsOf d) → v ≡ clean r
 unfolding clean
 coded r c d v e k h = rw (← e, k) h
+
+-- bytes of which none is low: no part of them has one
+written-valid : (r : Record) (f : Field) → valid r ≡ true → valid (written r f) ≡ true
+unfolding valid written
+written-valid r f h = every-take _ (f .width) (drop (f .start - 1) r) (every-drop _ (f .start - 1) r h)
+
+rows-clean : (r : Record) (rows : List Row) → valid r ≡ true → cleanIn r rows ≡ true
+unfolding cleanIn _and_
+rows-clean r [] h = refl
+rows-clean r (row ∷ rows) h = rw (written-valid r (row .position) h, or-true (row .unused)) (rows-clean r rows h)
+
+pub valid-clean : (r : Record) → valid r ≡ true → clean r ≡ true
+unfolding clean
+valid-clean r h = rows-clean r (rowsOf (codeOf r)) h

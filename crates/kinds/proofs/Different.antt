@@ -8,7 +8,6 @@ use native.Mathlib.Omega.{arith}
 use borrow.Author.Tests.{le-ltb}
 use lib.ListN.{length, replicate}
 use Rattle.record.specs.Choice.{_or_, choose}
-use Rattle.record.specs.Tests.{alike}
 use Rattle.record.proofs.Same.{alike-self}
 use Rattle.tables.specs.Tables.{member}
 use Rattle.tables.proofs.Tables.{member-again}

@@ -52,6 +52,11 @@ unfolding _and_
 and-true true = refl
 and-true false = refl
 
+pub or-true : (a : Bool) → (a or true) ≡ true
+unfolding _or_
+or-true true = refl
+or-true false = refl
+
 -- what a call's result says, where the result was tested
 pub told : {A : Type 0} (r x b : A) → r ≡ x → r ≡ b → x ≡ b
 told r x b e t = sym e ∙ t

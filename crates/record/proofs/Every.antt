@@ -77,13 +77,14 @@ every-at q [] i h e = absurd (not-suc-le-zero h)
 every-at q (x ∷ xs) zero h e = and-left (q x) (every q xs) e
 every-at q (x ∷ xs) (suc i) h e = every-at q xs i (le-of-suc-le-suc h) (and-right (q x) (every q xs) e)
 
-every-take : (q : ℕ → Bool) (n : ℕ) (xs : List ℕ) → every q xs ≡ true → every q (take n xs) ≡ true
+-- a test that holds of every byte holds of those in front, and of those behind
+pub every-take : (q : ℕ → Bool) (n : ℕ) (xs : List ℕ) → every q xs ≡ true → every q (take n xs) ≡ true
 unfolding every _and_
 every-take q zero xs e = refl
 every-take q (suc n) [] e = refl
 every-take q (suc n) (x ∷ xs) e = rw (and-left (q x) (every q xs) e) (every-take q n xs (and-right (q x) (every q xs) e))
 
-every-drop : (q : ℕ → Bool) (n : ℕ) (xs : List ℕ) → every q xs ≡ true → every q (drop n xs) ≡ true
+pub every-drop : (q : ℕ → Bool) (n : ℕ) (xs : List ℕ) → every q xs ≡ true → every q (drop n xs) ≡ true
 unfolding every
 every-drop q zero xs e = e
 every-drop q (suc n) [] e = e

@@ -17,7 +17,7 @@ use Rattle.page.proofs.Shown.{shownByte, shown-take, shown-drop, shown-at}
 use Rattle.record.specs.declared.Order.{Order}
 use Rattle.record.specs.declared.Order.the-variants.{Before, Same, After}
 use Rattle.record.specs.declared.place.Place.{Place}
-use Rattle.record.specs.Choice.{_and_, _or_, choose}
+use Rattle.record.specs.Choice.{_and_, choose}
 use Rattle.record.specs.Ordering.{order}
 use Rattle.record.specs.Place.{Within, value, plain, sent, near, leastPrintable, WholeOf}
 use Rattle.record.specs.Tests.{every, only, solid, digit, digits, valid, leastFrom, alike}

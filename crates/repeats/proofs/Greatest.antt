@@ -1,43 +1,23 @@
 -- A number that stands after the greatest so far: compared from the front, and what it says of the numbers before it.
 -- Assumes nothing.
-use mathlib.Core.Path.{_≡_, refl, sym, ap, _∙_}
+use mathlib.Core.Path.{_≡_, refl, sym, _∙_}
 use mathlib.Core.Bool.{Bool, true, false, true≢false}
 use mathlib.Core.List.{List, [], _∷_, _++_}
-use Prim.Native.Nat.{ℕ, suc, _+_, _≤_, _<_}
-use native.Mathlib.Numerals.{add-one}
+use Prim.Native.Nat.{ℕ}
 use native.Mathlib.Omega.{arith}
-use lib.Dec.{ltb}
-use borrow.Author.Tests.{ltb-true, ltb-false}
-use lib.ListN.{length, drop, getD, drop-of-length-le}
-use lib.Seq.{drop-cons}
-use Rattle.record.specs.declared.Field.{Field}
 use Rattle.record.specs.declared.Order.{Order}
 use Rattle.record.specs.declared.Order.the-variants.{Before, Same, After}
-use Rattle.record.specs.Choice.{_or_, choose}
-use Rattle.page.specs.CodePage.{shown}
-use Rattle.record.specs.Value.{Has, held}
+use Rattle.record.specs.Choice.{_or_}
 use Rattle.record.specs.Tests.{alike}
 use Rattle.record.specs.Ordering.{order, isAfter}
-use Rattle.record.proofs.Held.{held-length}
 use Rattle.record.proofs.Same.{alike-equal}
 use Rattle.record.proofs.Orders.{turn-before, turn-after, order-self, order-transitive}
-use Rattle.words.proofs.Afters.{part-whole}
 use Rattle.tables.specs.Tables.{member}
 use Rattle.repeats.specs.Repeats.{Topped}
 
--- what a field holds, read in its part or in a copy
-module _ (ascii : Bool) (rec : List ℕ) (f : Field) (greatest : List ℕ) where
-  pub copy-wide : (copy : List ℕ) → Has rec f → length greatest ≡ f .width → copy ≡ held (shown ascii rec) f → length greatest ≡ length copy
-  copy-wide copy w n e = n ∙ sym (ap length e ∙ held-length ascii rec f w)
-
-  module _ (r : Bool) where
-    pub part-after : (b : Bool) (part : List ℕ) → Has rec f → part ≡ choose b [] (held (shown ascii rec) f) → length part ≡ f .width → r ≡ isAfter (order part greatest)
-        → r ≡ isAfter (order (held (shown ascii rec) f) greatest)
-    part-after b part w e n q =
-        q ∙ ap (λ (xs : List ℕ). isAfter (order xs greatest)) (part-whole b _ part e (n ∙ sym (held-length ascii rec f w)))
-
-    pub copy-after : (copy : List ℕ) → copy ≡ held (shown ascii rec) f → r ≡ isAfter (order copy greatest) → r ≡ isAfter (order (held (shown ascii rec) f) greatest)
-    copy-after copy e q = q ∙ ap (λ (xs : List ℕ). isAfter (order xs greatest)) e
+-- a number that was copied and held against the greatest
+pub read-after : (copy x greatest : List ℕ) (r b : Bool) → copy ≡ x → r ≡ isAfter (order copy greatest) → r ≡ b → isAfter (order x greatest) ≡ b
+read-after copy x greatest r b e q t = rw (← e) (sym q ∙ t)
 
 -- the order that the test tells
 not-after : (o : Order) → isAfter o ≡ false → o ≡ After → ⊥

@@ -10,7 +10,6 @@ use Rattle.record.specs.declared.Field.{Field}
 use Rattle.page.specs.CodePage.{shown}
 use Rattle.record.specs.Value.{held}
 use Rattle.record.specs.Tests.{alike}
-use Rattle.record.specs.Ordering.{order, isAfter}
 use Rattle.record.specs.Codes.{codeOf, isDetail, isHeader}
 use Rattle.nesting.specs.Records.{recordAt}
 use Rattle.nesting.proofs.Cuts.{bytesFrom, recordFrom, from-place, from-length}
@@ -39,11 +38,6 @@ unfolding numbering
 number-end Payments = omega arith
 number-end Batches = omega arith
 
-number-width : (sort : Sort) → numbering sort .width ≤ 20
-unfolding numbering
-number-width Payments = omega arith
-number-width Batches = omega arith
-
 module _ (sort : Sort) (f : Field) (e : f ≡ numbering sort) where
   pub field-start : 1 ≤ f .start
   field-start = rw e (number-start sort)
@@ -54,17 +48,7 @@ module _ (sort : Sort) (f : Field) (e : f ≡ numbering sort) where
   pub field-within : f .start + f .width ≤ 851
   field-within = rw e (number-end sort)
 
-  pub field-few : f .width ≤ 20
-  field-few = rw e (number-width sort)
-
-  pub as-wide : (greatest : List ℕ) → length greatest ≡ numbering sort .width → length greatest ≡ f .width
-  as-wide greatest h = rw e h
-
   pub same-numbers : (ascii : Bool) (first place earlier : ℕ) (xs : List ℕ) (r : Bool)
       → r ≡ alike (held (recordFrom ascii xs (earlier * 850)) f) (held (recordFrom ascii xs (place * 850)) f)
       → r ≡ alike (held (recordAt first earlier (shown ascii xs)) (numbering sort)) (held (recordAt first place (shown ascii xs)) (numbering sort))
   same-numbers ascii first place earlier xs r h = h ∙ rw (from-place ascii first earlier xs, from-place ascii first place xs, e)
-
-  pub after-number : (ascii : Bool) (first place : ℕ) (xs greatest : List ℕ) (r : Bool) → r ≡ isAfter (order (held (recordFrom ascii xs (place * 850)) f) greatest)
-      → r ≡ isAfter (order (held (recordAt first place (shown ascii xs)) (numbering sort)) greatest)
-  after-number ascii first place xs greatest r h = h ∙ rw (from-place ascii first place xs, e)

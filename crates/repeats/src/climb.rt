@@ -1,10 +1,8 @@
 // Payment IDs that climb: where each stands after all those before it, none repeats.
 use crate::walk::id_of;
-use crate::walk::stands_after;
 use record::Line;
 use record::codes::Code;
 use record::codes::is_detail;
-use record::layout::PAYMENT_ID;
 ghost use mathlib.Core.Path.{_≡_};
 ghost use lib.ListN.{length};
 ghost use Rattle.record.specs.Value.{seen};
@@ -29,8 +27,8 @@ pub fn climb(rec: &[u8], line: Line, code: Code, known: Climbing) -> Climbing
         return known;
     }
     let greatest = known.greatest;
-    if stands_after(rec, line, PAYMENT_ID, &greatest) {
-        let id = id_of(rec, line);
+    let id = id_of(rec, line);
+    if words::is_after(&id, &greatest) {
         return Climbing {
             falls: false,
             greatest: id,

@@ -60,8 +60,8 @@ pub fn number_batch(
         };
     }
     let first = Line { number: 1, ascii };
-    if walk::is_after(file, first, place, Sort::Batches, &greatest) {
-        let number = walk::schedule_number(file, first, place);
+    let number = walk::schedule_number(file, first, place);
+    if words::is_after(&number, &greatest) {
         return Numbering {
             repeats: false,
             greatest: number,

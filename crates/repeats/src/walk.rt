@@ -10,9 +10,8 @@ ghost use mathlib.Core.Path.{_≡_};
 ghost use Prim.Native.Nat.{_≤_};
 ghost use lib.ListN.{length};
 ghost use Rattle.record.specs.Choice.{_and_};
-ghost use Rattle.record.specs.Value.{Has, seen, held};
+ghost use Rattle.record.specs.Value.{seen, held};
 ghost use Rattle.record.specs.Tests.{alike};
-ghost use Rattle.record.specs.Ordering.{order, isAfter};
 ghost use Rattle.nesting.specs.Records.{cut, recordAt};
 ghost use Rattle.tables.specs.Tables.{Stands};
 ghost use Rattle.repeats.specs.declared.Sort.the-variants.{Payments, Batches};
@@ -86,35 +85,6 @@ pub(crate) fn is_repeated(file: &[u8], first: Line, place: usize, sort: Sort) ->
         earlier += 1;
     }
     false
-}
-
-// What the field holds stands after the greatest. It is read where it stands if it can be.
-pub(crate) fn stands_after(rec: &[u8], line: Line, field: Field, greatest: &[u8]) -> bool
-    requires { ⌜ Has (now rec) field × (field .width ≤ 20) × (length (now greatest) ≡ field .width) ⌝ }
-    ensures { λ r. ⌜ r ≡ isAfter (order (held (seen line (now (rec .entry))) field) (now (greatest .entry))) ⌝ }
-{
-    let width = field.width;
-    let part = record::field_part(rec, line, field);
-    if part.len() == width {
-        return words::is_after(part, greatest);
-    }
-    let mut copy = [0u8; 20];
-    let own = &mut copy[..width];
-    record::copy_field(rec, line, field, own);
-    words::is_after(own, greatest)
-}
-
-// The number of the record at the place stands after the greatest.
-pub(crate) fn is_after(file: &[u8], first: Line, place: usize, sort: Sort, greatest: &[u8]) -> bool
-    requires { ⌜ Stands (first .number) place (now file) × (length (now greatest) ≡ numbering sort .width) ⌝ }
-    ensures { λ r. ⌜ r ≡ isAfter (order (held (recordAt (first .number) place (seen first (now (file .entry)))) (numbering sort)) (now (greatest .entry))) ⌝ }
-{
-    let at = place * 850;
-    let end = at + 850;
-    let number = first.number + place;
-    let ascii = first.ascii;
-    let field = number_field(sort);
-    stands_after(&file[at..end], Line { number, ascii }, field, greatest)
 }
 
 // The schedule number of the record at the place (004 field 6).

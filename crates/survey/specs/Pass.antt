@@ -1,10 +1,14 @@
 -- The pass from record to record (01 File answers, 5, 7 and 13). No promise about a file rests on it: the proofs tie it to Survey.antt.
+use mathlib.Core.Path.{_≡_}
+use mathlib.Core.Bool.{Bool, true}
 use Prim.Native.Nat.{ℕ, _+_, _*_, _<_}
 use mathlib.Core.List.{List, [], _∷_}
 use lib.Dec.{eqb}
+use lib.Seq.{slice}
 use Rattle.record.specs.Choice.{choose}
 use Rattle.record.specs.Fields.{amount}
 use Rattle.record.specs.Value.{held}
+use Rattle.record.specs.Tests.{valid}
 use Rattle.record.specs.Codes.{codeOf, isDetail}
 use Rattle.money.specs.Money.{worth, split, cents, Whole}
 use Rattle.nesting.specs.declared.Verdict.the-variants.{Legal}
@@ -24,6 +28,14 @@ detailCents r = choose (isDetail (codeOf r)) (cents (held r amount)) 0
 unfoldable pub paidIn : List Record → ℕ
 paidIn [] = 0
 paidIn (r ∷ rs) = detailCents r + paidIn rs
+
+-- no byte from `at` up to `to` is below hex 40, fillers too
+unfoldable pub High : List ℕ → ℕ → ℕ → Type 0
+High bytes at to = valid (slice at to bytes) ≡ true
+
+-- a record that is said to be high has no byte below hex 40, fillers too
+abbrev pub Told : Bool → Record → Type 0
+Told said r = said ≡ true → valid r ≡ true
 
 -- before the first record
 unfoldable pub begun : Going

@@ -1,17 +1,17 @@
 -- Eight bytes stand in the order of their numbers, and what is left behind bytes that are the same decides.
 -- Assumes nothing.
 use mathlib.Core.Path.{_≡_, refl, sym, ap, _∙_}
-use mathlib.Core.Bool.{Bool, true, false}
+use mathlib.Core.Bool.{Bool, false}
 use mathlib.Core.List.{List, [], _∷_, _++_}
-use Prim.Native.Nat.{ℕ, suc, _+_, _-_, _*_, _^_, _≤_, _<_}
+use Prim.Native.Nat.{ℕ, suc, _+_, _*_, _^_, _≤_, _<_}
 use native.Mathlib.Numerals.{add-one}
 use native.Mathlib.Nat.{pow-suc, pow-le-pow-right}
 use native.Mathlib.Omega.{arith}
 use lib.Dec.{ltb}
-use borrow.Author.Tests.{ltb-true, ltb-false, lt-ltb, le-ltb}
+use borrow.Author.Tests.{lt-ltb, le-ltb}
 use lib.ListN.{length, take, drop, getD, drop-of-length-le, take-append-drop}
 use lib.Seq.{slice, slice-cons, slice-empty, length-slice, length-take-le, drop-cons, drop-append-le}
-use Rattle.record.specs.declared.Order.the-variants.{Before, Same, After}
+use Rattle.record.specs.declared.Order.the-variants.{Before}
 use Rattle.record.specs.Ordering.{order, isAfter}
 use Rattle.record.proofs.Orders.{before, after, level, Side, less, more, same, side, turn-before}
 use Rattle.numbers.proofs.Laws.{Bytes, bytes-all, bytes-take, bytes-drop}

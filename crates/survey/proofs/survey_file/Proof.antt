@@ -3,22 +3,25 @@ use lib.ListN.{length}
 use Rattle.page.specs.CodePage.{shown}
 use Rattle.record.proofs.Chain.{told-not, told-yes}
 use Rattle.record.proofs.CodeList.{code-read}
+use Rattle.survey.specs.Pass.{High}
+use Rattle.survey.proofs.Highs.{high-none, high-next, high-record}
 use Rattle.survey.proofs.Turns.{Surveying, surveying, within-next, number-few, turned, stopped, closed, unclosed}
+use borrow.Author.Tests.{leb-true}
 use borrow.Author.Needs.{needs}
 use Rattle.survey.proofs.survey_file.Statement.{statement}
 use Rattle.survey.proofs.survey_file.Tie as tie
 
 abbrev Inv-loop : tie.InvT-loop
-Inv-loop file ascii going₀ number₀ at₀ going number at = Surveying (shown ascii file) going number at × (at ≤ length file)
+Inv-loop file ascii going₀ number₀ at₀ reached₀ going number at reached = Surveying (shown ascii file) going number at × (at ≤ length file) × High (shown ascii file) at reached
 
 abbrev μ-loop : tie.MeasureT-loop
-μ-loop file ascii going₀ number₀ at₀ going number at = length file - at
+μ-loop file ascii going₀ number₀ at₀ reached₀ going number at reached = length file - at
 
 start-requires : tie.Need-start-requires Inv-loop μ-loop
 start-requires c κs = search needs
 
 loop-holds : tie.Need-loop-holds Inv-loop μ-loop
-loop-holds c = (surveying _ _ (c .start .ensures), search needs)
+loop-holds c = (surveying _ _ (c .start .ensures), search needs, high-none _ _)
 
 add-end : tie.Need-add-end Inv-loop μ-loop
 add-end c = search needs
@@ -31,6 +34,9 @@ part-rec-start c = search needs
 
 part-rec-end : tie.Need-part-rec-end Inv-loop μ-loop
 part-rec-end c = search needs
+
+reach-requires : tie.Need-reach-requires Inv-loop μ-loop
+reach-requires c κs = search needs
 
 add-number : tie.Need-add-number Inv-loop μ-loop
 add-number c = search needs
@@ -49,27 +55,29 @@ refuse-requires c κs = search needs
 
 returns : tie.Need-returns Inv-loop μ-loop
 returns c =
-    let d = c .before .before .before .before .before .before .before .before in
+    let d = c .before .before .before .before .before .before .before .before .before in
     let e = d .before .before in
-    let h = c .before .before .before .before .before .before .before .loop-test .taken in
+    let h = c .before .before .before .before .before .before .before .before .loop-test .taken in
     stopped _ _ _ _ _ (e .before .pre) (d .loop .inv .0) _ h (code-read _ _ _ (c .before .before .before .before .before .code-bytes .ensures) (c .before .before .before .before .code-of .ensures)) _ (c .before .before .fits2 .ensures)
     (λ i. e .shared-slice-known .given i .fits) (c .before .if1 .taken) _ (c .refuse .ensures)
 
 step-requires : tie.Need-step-requires Inv-loop μ-loop
 step-requires c κs =
-    let d = c .before .before .before .before .before .before .before in
+    let d = c .before .before .before .before .before .before .before .before in
     let l = d .loop .inv .0 in
-    let h = c .before .before .before .before .before .before .loop-test .taken in
-    (search needs, number-few _ _ _ _ _ (d .before .before .before .pre) l h, (code-read _ _ _ (c .before .before .before .before .code-bytes .ensures) (c .before .before .before .code-of .ensures)), told-yes _ _ (c .before .fits2 .ensures) (c .if1 .left), l .room)
+    let h = c .before .before .before .before .before .before .before .loop-test .taken in
+    let u = c .before .before .before .before .before .reach .ensures in
+    (search needs, number-few _ _ _ _ _ (d .before .before .before .pre) l h, (code-read _ _ _ (c .before .before .before .before .code-bytes .ensures) (c .before .before .before .code-of .ensures)), told-yes _ _ (c .before .fits2 .ensures) (c .if1 .left), (λ t. high-record _ _ _ _ u (leb-true _ _ t)), l .room)
 
 loop-less : tie.Need-loop-less Inv-loop μ-loop
 loop-less c = search needs
 
 loop-again : tie.Need-loop-again Inv-loop μ-loop
 loop-again c =
-    let d = c .before .before .before .before .before .before .before .before in
-    let h = c .before .before .before .before .before .before .before .loop-test .taken in
-    (turned _ _ _ _ _ (d .before .before .before .pre) (d .loop .inv .0) _ h (code-read _ _ _ (c .before .before .before .before .before .code-bytes .ensures) (c .before .before .before .before .code-of .ensures)) _ (c .before .before .fits2 .ensures) (c .before .if1 .left) _ (c .step .ensures), within-next _ _ _ _ _ (d .before .before .before .pre) (d .loop .inv .0) h)
+    let d = c .before .before .before .before .before .before .before .before .before in
+    let h = c .before .before .before .before .before .before .before .before .loop-test .taken in
+    let u = c .before .before .before .before .before .before .reach .ensures in
+    (turned _ _ _ _ _ (d .before .before .before .pre) (d .loop .inv .0) _ h (code-read _ _ _ (c .before .before .before .before .before .code-bytes .ensures) (c .before .before .before .before .code-of .ensures)) _ (c .before .before .fits2 .ensures) (c .before .if1 .left) _ (c .step .ensures), within-next _ _ _ _ _ (d .before .before .before .pre) (d .loop .inv .0) h, high-next _ _ _ u)
 
 is-at-requires : tie.Need-is-at-requires Inv-loop μ-loop
 is-at-requires c κs = search needs
@@ -106,6 +114,7 @@ survey-file-spec =
     sub-rec
     part-rec-start
     part-rec-end
+    reach-requires
     add-number
     code-bytes-requires
     code-of-requires

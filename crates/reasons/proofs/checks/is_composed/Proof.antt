@@ -1,6 +1,5 @@
 use Prim.Native.Nat.{_≤_, _-_}
-use mathlib.Core.Path.{_≡_, refl, sym, _∙_}
-use native.Mathlib.Omega.{arith}
+use mathlib.Core.Path.{refl, sym, _∙_}
 use lib.ListN.{length}
 use Rattle.record.proofs.Same.{Both, both-none, same-more, same-stop, same-whole}
 use Rattle.reasons.specs.Reasons.{symbolAndSerial}

@@ -3,7 +3,6 @@ use Prim.Native.Nat.{ℕ, _≤_, _-_}
 use lib.Dec.{eqb}
 use Rattle.record.specs.Place.{sent}
 use mathlib.Core.Bool.{not}
-use mathlib.Core.Path.{ap}
 use Rattle.record.proofs.Every.{Left, left-none, every-next, every-stop, every-end, every-whole}
 use Rattle.record.proofs.Sent.{within-plain, eq-none, ne-none}
 use Rattle.record.proofs.place.has_none.Statement.{statement}

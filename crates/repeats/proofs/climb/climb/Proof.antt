@@ -1,5 +1,7 @@
+use mathlib.Core.Path.{_≡_}
+use lib.ListN.{length}
 use Rattle.record.proofs.Chain.{reads}
-use Rattle.repeats.specs.Repeats.{numbering}
+use Rattle.repeats.proofs.Greatest.{read-after}
 use Rattle.repeats.proofs.Climbs.{climb-fallen, climb-past, climb-up, climb-down}
 use borrow.Author.Needs.{needs}
 use Rattle.repeats.proofs.climb.climb.Statement.{statement}
@@ -14,22 +16,25 @@ is-detail-requires c κs = search needs
 returns-2 : tie.Need-returns-2
 returns-2 c = search (needs, climb-past, reads)
 
-slice-aggregate-stands-after : tie.Need-slice-aggregate-stands-after
-slice-aggregate-stands-after c = search needs
-
-stands-after-requires : tie.Need-stands-after-requires
-stands-after-requires c κs = search needs
-
 id-of-requires : tie.Need-id-of-requires
 id-of-requires c κs = search needs
 
+slice-aggregate-is-after : tie.Need-slice-aggregate-is-after
+slice-aggregate-is-after c = search needs
+
+slice-aggregate-is-after-2 : tie.Need-slice-aggregate-is-after-2
+slice-aggregate-is-after-2 c = search needs
+
+is-after-requires : tie.Need-is-after-requires
+is-after-requires c κs =
+    let g : length (c .before .before .before .before .before .before .before .before .args .known .greatest) ≡ 20 = search needs in
+    search needs
+
 returns-3 : tie.Need-returns-3
-unfolding numbering
-returns-3 c = search (needs, climb-up, reads)
+returns-3 c = search (needs, climb-up, read-after, reads)
 
 returns-4 : tie.Need-returns-4
-unfolding numbering
-returns-4 c = search (needs, climb-down, reads)
+returns-4 c = search (needs, climb-down, read-after, reads)
 
 pub climb-spec : {M : Type 1} → statement M
 climb-spec =
@@ -38,8 +43,9 @@ climb-spec =
     returns
     is-detail-requires
     returns-2
-    slice-aggregate-stands-after
-    stands-after-requires
     id-of-requires
+    slice-aggregate-is-after
+    slice-aggregate-is-after-2
+    is-after-requires
     returns-3
     returns-4)
