@@ -125,6 +125,7 @@ unfolding cleanIn _and_
 rows-clean r [] h = refl
 rows-clean r (row ∷ rows) h = rw (written-valid r (row .position) h, or-true (row .unused)) (rows-clean r rows h)
 
+-- so a record of which no byte is low is clean
 pub valid-clean : (r : Record) → valid r ≡ true → clean r ≡ true
 unfolding clean
 valid-clean r h = rows-clean r (rowsOf (codeOf r)) h

@@ -1,4 +1,4 @@
--- A number that stands after the greatest so far: compared from the front, and what it says of the numbers before it.
+-- A number that stands after the greatest so far, and what it says of the numbers before it.
 -- Assumes nothing.
 use mathlib.Core.Path.{_≡_, refl, sym, _∙_}
 use mathlib.Core.Bool.{Bool, true, false, true≢false}

@@ -29,13 +29,13 @@ unfoldable pub paidIn : List Record → ℕ
 paidIn [] = 0
 paidIn (r ∷ rs) = detailCents r + paidIn rs
 
--- no byte from `at` up to `to` is below hex 40, fillers too
+-- no byte from `at` up to `to` is below hex 40, fillers too (01 Bytes)
 unfoldable pub High : List ℕ → ℕ → ℕ → Type 0
 High bytes at to = valid (slice at to bytes) ≡ true
 
--- a record that is said to be high has no byte below hex 40, fillers too
-abbrev pub Told : Bool → Record → Type 0
-Told said r = said ≡ true → valid r ≡ true
+-- a record that is said to be high has no byte below hex 40, fillers too (01 Bytes)
+abbrev pub HighIf : Bool → Record → Type 0
+HighIf said r = said ≡ true → valid r ≡ true
 
 -- before the first record
 unfoldable pub begun : Going

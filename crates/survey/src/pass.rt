@@ -18,7 +18,7 @@ ghost use Rattle.record.specs.Codes.{codeOf};
 ghost use Rattle.money.specs.Money.{worth, split, Fit};
 ghost use Rattle.nesting.specs.Reader.{fits};
 ghost use Rattle.characters.specs.Characters.{clean};
-ghost use Rattle.survey.specs.Pass.{detailCents, begun, stepped, Told, Room};
+ghost use Rattle.survey.specs.Pass.{detailCents, begun, stepped, HighIf, Room};
 
 // What is known after a record: the reader's state, the first record with a byte below hex 40 outside its fillers, or 0, and the exact
 // sum of the details.
@@ -31,7 +31,7 @@ pub(crate) struct Going {
 // The first record with a low byte up to this one, or 0: the earlier one that is known, or else this one where it has such a byte. A record that is
 // high has none, not in its fillers either.
 fn note_unclean(known: usize, rec: &[u8], line: Line, code: Code, high: bool) -> usize
-    requires { ⌜ (850 ≤ length (now rec)) × (code ≡ codeOf (seen line (now rec))) × Told high (seen line (now rec)) ⌝ }
+    requires { ⌜ (850 ≤ length (now rec)) × (code ≡ codeOf (seen line (now rec))) × HighIf high (seen line (now rec)) ⌝ }
     ensures { λ r. ⌜ r ≡ choose (eqb known 0) (choose (clean (seen line (now (rec .entry)))) 0 (line .number)) known ⌝ }
 {
     if known != 0 {
@@ -81,7 +81,7 @@ pub(crate) fn start() -> Going
 
 // After one record more, which has this code and fits.
 pub(crate) fn step(rec: &[u8], line: Line, code: Code, high: bool, going: Going) -> Going
-    requires { ⌜ (850 ≤ length (now rec)) × (line .number ≤ 65535) × (code ≡ codeOf (seen line (now rec))) × (fits (going .state) code (held (seen line (now rec)) paymentId) ≡ true) × Told high (seen line (now rec)) × Room (line .number) going ⌝ }
+    requires { ⌜ (850 ≤ length (now rec)) × (line .number ≤ 65535) × (code ≡ codeOf (seen line (now rec))) × (fits (going .state) code (held (seen line (now rec)) paymentId) ≡ true) × HighIf high (seen line (now rec)) × Room (line .number) going ⌝ }
     ensures { λ r. ⌜ r ≡ stepped (line .number) (seen line (now (rec .entry))) going ⌝ }
 {
     let before = going.state;
