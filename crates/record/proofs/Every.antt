@@ -3,14 +3,14 @@
 use mathlib.Core.Path.{_≡_, refl, sym, ap, _∙_}
 use mathlib.Core.Bool.{Bool, true, false}
 use mathlib.Core.List.{List, [], _∷_, _++_}
-use Prim.Native.Nat.{ℕ, zero, suc, _+_, _≤_, _<_, min}
+use Prim.Native.Nat.{ℕ, zero, suc, _+_, _-_, _≤_, _<_, min}
 use native.Mathlib.Numerals.{add-one}
 use native.Mathlib.Nat.{le-of-suc-le-suc, not-suc-le-zero}
 use native.Mathlib.Omega.{arith}
 use lib.Dec.{leb}
 use borrow.Author.Tests.{lt-leb, le-leb, leb-true, leb-false}
 use lib.ListN.{length, take, drop, getD, length-take, length-drop, drop-of-length-le, take-append-drop}
-use lib.Seq.{drop-cons, getD-drop, getD-take, slice, slice-cons, slice-empty, take-all}
+use lib.Seq.{drop-cons, getD-drop, getD-take, slice, slice-cons, slice-empty, take-nil, take-all}
 use Rattle.record.specs.declared.place.Place.{Place}
 use Rattle.record.specs.Choice.{_and_}
 use Rattle.record.specs.Place.{Within, value}
@@ -69,6 +69,19 @@ every-end q xs from to i h k l =
 -- the same of the whole value
 pub every-whole : (q : ℕ → Bool) (rec : List ℕ) (p : Place) (r : Bool) → Within rec p → r ≡ every q (slice 0 (p .width) (value rec p)) → r ≡ every q (value rec p)
 every-whole q rec p r w e = e ∙ ap (every q) (whole rec p (p .width) w refl)
+
+-- a part of a list, by its beginning and its length
+pub slice-from : (from to : ℕ) (xs : List ℕ) → slice from to xs ≡ take (to - from) (drop from xs)
+slice-from zero to xs =
+    let n : to - 0 ≡ to = omega arith in
+    rw n
+slice-from (suc from) zero xs =
+    let n : 0 - suc from ≡ 0 = omega arith in
+    rw n
+slice-from (suc from) (suc to) [] = sym (take-nil (suc to - suc from))
+slice-from (suc from) (suc to) (x ∷ xs) =
+    let n : suc to - suc from ≡ to - from = omega arith in
+    rw n (slice-from from to xs)
 
 -- a test that holds of every byte holds of each
 pub every-at : (q : ℕ → Bool) (xs : List ℕ) (i : ℕ) → i < length xs → every q xs ≡ true → q (getD xs i 0) ≡ true

@@ -11,7 +11,7 @@ use denote.Enum.Declared.{tagOf}
 use lib.Dec.{eqb}
 use borrow.Author.Tests.{not-true, not-false}
 use lib.ListN.{length, take, drop, getD, replicate, length-append, length-replicate, getD-replicate, List·getD-eq-default}
-use lib.Seq.{slice, drop-drop, take-take, take-all, take-nil}
+use lib.Seq.{slice, drop-drop, take-take, take-all}
 use Rattle.page.specs.CodePage.{codePage, ebcdic, shown}
 use Rattle.record.specs.declared.Order.{Order}
 use Rattle.record.specs.declared.Justification.{Justification}
@@ -29,17 +29,10 @@ use Rattle.record.specs.Numeral.{numeral}
 use Rattle.record.specs.Ordering.{order}
 use Rattle.page.proofs.Shown.{shownByte, shown-plain, shown-length, shown-take, shown-drop, shown-at}
 use Rattle.record.proofs.Chain.{and-left, and-right}
-use Rattle.record.proofs.Every.{value-length, whole, digits-part}
+use Rattle.record.proofs.Every.{value-length, whole, slice-from, digits-part}
 use Rattle.record.proofs.Sent.{sent-length, value-sent}
 use Rattle.record.proofs.Parts.{at-first, at-second, at-third, every-whole-part, every-blank-behind, zeros-count-nothing}
 use Rattle.record.proofs.Corrected.{Led, led-next, led-stop, led-end, Trailed, trailed-none, trailed-next, trailed-stop, trailed-end, corrected-stays, corrected-all-blank, moved-left-is, moved-right-is, trimmed-is, led-blank, led-filled}
-
--- a part of a list, by its beginning and its length
-slice-short : (a b : ℕ) (xs : List ℕ) → a ≤ b → slice a b xs ≡ take (b - a) (drop a xs)
-slice-short zero b xs h = let n : b - zero ≡ b = omega arith in rw n
-slice-short (suc a) zero xs h = absurd (not-suc-le-zero h)
-slice-short (suc a) (suc b) [] h = sym (take-nil (suc b - suc a))
-slice-short (suc a) (suc b) (x ∷ xs) h = let n : suc b - suc a ≡ b - a = omega arith in rw n (slice-short a b xs (le-of-suc-le-suc h))
 
 -- a part of the bytes as the rules see them
 slice-shown : (c : Bool) (a b : ℕ) (xs : List ℕ) → shown c (slice a b xs) ≡ slice a b (shown c xs)
@@ -55,7 +48,7 @@ module _ (rec : List ℕ) (p : Place) (w : Within rec p) (a b : ℕ) (h : a ≤ 
   unfolding value
   part-value =
       let xs = drop (p .start) rec in
-      ap (shown (p .ascii)) (ap (take (b - a)) (sym (drop-drop a (p .start) rec)) ∙ sym (slice-short a b xs h) ∙ ap (drop a) (sym (take-take b (p .width) xs k)))
+      ap (shown (p .ascii)) (ap (take (b - a)) (sym (drop-drop a (p .start) rec)) ∙ sym (slice-from a b xs) ∙ ap (drop a) (sym (take-take b (p .width) xs k)))
       ∙ slice-shown (p .ascii) a b (take (p .width) xs)
 
 -- what is moved left, and what is moved right

@@ -2,32 +2,19 @@
 -- Assumes nothing.
 use mathlib.Core.Path.{_≡_, sym, _∙_, ap}
 use mathlib.Core.Bool.{Bool, true}
-use mathlib.Core.List.{List, [], _∷_}
-use Prim.Native.Nat.{ℕ, zero, suc, _+_, _-_, _≤_}
+use mathlib.Core.List.{List}
+use Prim.Native.Nat.{ℕ, _+_, _-_, _≤_}
 use native.Mathlib.Omega.{arith}
 use lib.ListN.{take, drop}
-use lib.Seq.{slice, slice-empty, take-nil, take-take, drop-drop}
+use lib.Seq.{slice, slice-empty, take-take, drop-drop}
 use Rattle.page.specs.CodePage.{shown}
 use Rattle.page.proofs.Shown.{shown-take, shown-drop}
 use Rattle.record.specs.Fields.{fixed}
 use Rattle.record.specs.Value.{written}
 use Rattle.record.specs.Tests.{every, valid}
-use Rattle.record.proofs.Every.{every-take, every-drop}
+use Rattle.record.proofs.Every.{slice-from, every-take, every-drop}
 use Rattle.nesting.proofs.Cuts.{recordFrom, from-seen}
 use Rattle.survey.specs.Pass.{High}
-
--- a part, taken from behind or from the front
-taken : (from to : ℕ) (xs : List ℕ) → slice from to xs ≡ take (to - from) (drop from xs)
-taken zero to xs =
-    let e : to - 0 ≡ to = omega arith in
-    rw e
-taken (suc from) zero xs =
-    let e : 0 - suc from ≡ 0 = omega arith in
-    rw e
-taken (suc from) (suc to) [] = sym (take-nil (suc to - suc from))
-taken (suc from) (suc to) (x ∷ xs) =
-    let e : suc to - suc from ≡ to - from = omega arith in
-    rw e (taken from to xs)
 
 pub high-none : (bytes : List ℕ) (at : ℕ) → High bytes at at
 unfolding High valid every
@@ -48,11 +35,11 @@ module _ (ascii : Bool) (sent : List ℕ) (at : ℕ) where
       let n : at + 6800 - at ≡ 6800 = omega arith in
       let s : take 6800 (shown ascii (take 6800 (drop at sent))) ≡ take 6800 (drop at f) =
       rw (shown-take ascii 6800 (drop at sent), shown-drop ascii at sent) (take-take 6800 6800 (drop at f) (omega arith)) in
-      rw (taken at (at + 6800) f, n, ← s) (sym (rw n at e) ∙ h)
+      rw (slice-from at (at + 6800) f, n, ← s) (sym (rw n at e) ∙ h)
 
   -- a record before the place
   pub high-record : (to : ℕ) → High f at to → at + 850 ≤ to → valid (recordFrom ascii sent at) ≡ true
   unfolding High valid shown
   high-record to h w =
-      let s : take 850 (slice at to f) ≡ take 850 (drop at f) = ap (take 850) (taken at to f) ∙ take-take 850 (to - at) (drop at f) (omega arith) in
+      let s : take 850 (slice at to f) ≡ take 850 (drop at f) = ap (take 850) (slice-from at to f) ∙ take-take 850 (to - at) (drop at f) (omega arith) in
       rw (from-seen ascii sent 1 at, ← s) (every-take _ 850 (slice at to f) h)

@@ -44,8 +44,8 @@ fn refuse(number: usize) -> Survey
     }
 }
 
-// How far the bytes from `at` on have none below hex 40, fillers too: as far as was known or, looked up at each eighth record, over eight of them.
-// Bytes that are read in a row do not wait for memory one by one.
+// Up to where the bytes from `at` on are known to have none below hex 40, fillers too. They are looked at eight records at a time: bytes that are
+// read in a row are fetched ahead.
 fn reach(file: &[u8], ascii: bool, number: usize, at: usize, known: usize) -> usize
     requires { ⌜ (at ≤ length (now file)) × High (shown ascii (now file)) at known ⌝ }
     ensures { λ r. ⌜ High (shown ascii (now (file .entry))) at r ⌝ }
