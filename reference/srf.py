@@ -207,12 +207,47 @@ def plain_date(v):
     return first((blank(v), 1), (not is_day(v[0:4], v[4:6], v[6:8]), 5))
 
 
+# ---- today (02 W4)
+
+def day_of(v):
+    """The day of YYYYMMDD; None where it is none."""
+    return datetime.date(int(v[0:4]), int(v[4:6]), int(v[6:8])) if len(v) == 8 and is_day(v[0:4], v[4:6], v[6:8]) else None
+
+
+def month_of(v):
+    """The first and the last day of MMYY, in the years 2000 to 2099; None where it is no month."""
+    if not is_digits(v) or not 1 <= int(v[:2]) <= 12:
+        return None
+    year, month = 2000 + int(v[2:]), int(v[:2])
+    after = datetime.date(year + month // 12, month % 12 + 1, 1)
+    return datetime.date(year, month, 1), after - datetime.timedelta(days=1)
+
+
+def ahead(day, today):
+    """A difference of days, with its sign."""
+    return (day - today).days
+
+
+def timely(reason, today, kept):
+    """15 is the last reason of its field; with nothing lent nothing is tested."""
+    return reason or first((today is not None and not kept(), 15))
+
+
+def is_current(month, today):
+    start, end = month
+    return ahead(start, today) <= 31 and -ahead(end, today) <= 180 and (start.year <= today.year or (start.month == 1 and today.month == 12))
+
+
+def is_issued(day, month, today):
+    return month is not None and month[0] <= day <= month[1] and -ahead(day, today) <= 180 and ahead(day, today) <= 30
+
+
 def routing(v):
     prefixes = [*range(0, 13), *range(21, 33), *range(61, 73), 80]
     return number(v) or first((int(v[:2]) not in prefixes, 3))
 
 
-def header_faults(h, letter, book, repeats):
+def header_faults(h, letter, book, repeats, today):
     v = lambda field: held(h, field)
     own = v(18) + v(19) + "  "  # put side by side, and not moved again
     yield 6, first((blank(v(6)), 1), (repeats, 6), (letter == "C" and v(6) != own, 7))
@@ -229,13 +264,13 @@ def header_faults(h, letter, book, repeats):
     else:
         yield 15, number(v(15))
         yield 16, listed(v(16), ["0"])
-        yield 17, plain_date(v(17))
+        yield 17, timely(plain_date(v(17)), today, lambda: ahead(day_of(v(17)), today) <= 0)
         yield 18, number(v(18)) or first((not 1000 <= int(v(18)) <= 9998, 8))
         yield 19, number(v(19))
-        yield 20, number(v(20)) or first((not 1 <= int(v(20)[:2]) <= 12, 5))
+        yield 20, timely(number(v(20)) or first((not 1 <= int(v(20)[:2]) <= 12, 5)), today, lambda: is_current(month_of(v(20)), today))
 
 
-def detail_faults(d, letter, book, h, earlier):
+def detail_faults(d, letter, book, h, earlier, today):
     """`earlier` are the details of the earlier payments."""
     v = lambda field: held(d, field)
     check = letter == "C"
@@ -271,7 +306,7 @@ def detail_faults(d, letter, book, h, earlier):
     if check:
         start = held(h, 19)
         yield 58, number(v(58)) or first((is_digits(start) and int(v(58)) != int(start) + len(earlier), 7))
-        yield 59, plain_date(v(59))
+        yield 59, timely(plain_date(v(59)), today, lambda: is_issued(day_of(v(59)), month_of(held(h, 20)), today))
     if letter == "N":
         yield 62, listed(v(62), "CCD PPD IAT CTX".split())
 
@@ -330,19 +365,20 @@ def payments_of(batch):
     return parts(batch[1:-1], lambda numbered: is_detail(numbered[1]))
 
 
-def faults(batch, book, repeats):
-    """All that is wrong with a batch of numbered records, in document 01's order: reason, record, field; reason 0 where nothing is."""
+def faults(batch, book, repeats, today=None):
+    """All that is wrong with a batch of numbered records, in document 01's order: reason, record, field; reason 0 where nothing is.
+    Today is a day, or None where nothing is lent."""
     (head, h), (end, t) = batch[0], batch[-1]
     letter = code_of(h)[1]
     payments = payments_of(batch)
     details = [p[0][1] for p in payments]
-    yield from ((reason, head, field) for field, reason in header_faults(h, letter, book, repeats))
+    yield from ((reason, head, field) for field, reason in header_faults(h, letter, book, repeats, today))
     for i, payment in enumerate(payments):
         n, d = payment[0]
         location = held(d, 29) if letter == "C" else held(h, 14)
         reporter = not blank(location) and book[2].get(location) == 1
         accounts, procurements = of_code(payment, "DT"), of_code(payment, "DP")
-        yield from ((reason, n, field) for field, reason in detail_faults(d, letter, book, h, details[:i]))
+        yield from ((reason, n, field) for field, reason in detail_faults(d, letter, book, h, details[:i], today))
         for k, r in of_code(payment, "DX"):
             yield from ((reason, k, field) for field, reason in party_faults(r, letter))
         for k, r in accounts:
@@ -363,10 +399,10 @@ def split(total):
     return [total // 10**10, total % 10**10]
 
 
-def batch_row(batch, book, earlier):
+def batch_row(batch, book, earlier, today):
     """`earlier` are the headers of the earlier batches."""
     repeats = held(batch[0][1], 6) in [held(h, 6) for h in earlier]
-    wrong = [f for f in faults(batch, book, repeats) if f[0]]
+    wrong = [f for f in faults(batch, book, repeats, today) if f[0]]
     payments = payments_of(batch)
     return [batch[0][0], len(batch), len(payments), *split(sum(map(paid_by, payments))), *(wrong or [(0, 0, 0)])[0]]
 
@@ -384,7 +420,7 @@ def is_low(rec):
     return any(not any(start <= i <= end for start, end in fillers) for i, x in enumerate(rec, 1) if x < 0x40)
 
 
-def reasons(file, book, room):
+def reasons(file, book, room, lent):
     """Each reason that applies, in document 01's order, with the record that it names. Only the first counts: the tests after it may
     have nothing to look at, and are not made."""
     if len(file) == 0:
@@ -396,6 +432,8 @@ def reasons(file, book, room):
     lists = parsed(book)
     if lists is None:
         yield 4, 0
+    if lent and day_of(lent.decode("cp037")) is None:
+        yield 14, 0
     file = translated(file)
     records = [file[i:i + 850] for i in range(0, len(file), 850)]
     fault = nesting_fault(records)
@@ -422,9 +460,9 @@ def reasons(file, book, room):
         yield 13, last
 
 
-def judged(file, book, room):
-    """The answer, and the rows of an accepted file."""
-    reason, record = next(reasons(file, book, room), (0, 0))
+def judged(file, book, room, lent=b""):
+    """The answer, and the rows of an accepted file. `lent` are the bytes of today (02 W4), or none."""
+    reason, record = next(reasons(file, book, room, lent), (0, 0))
     if reason:
         return reason * 100000 + record, []
     file = translated(file)
@@ -433,7 +471,7 @@ def judged(file, book, room):
     details = [r for _, r in numbered if is_detail(r)]
     head = [0, 0, len(numbered), len(details), *split(sum(cents(held(d, 24)) for d in details)), len(batches), 0]
     headers = [b[0][1] for b in batches]
-    return 0, [head] + [batch_row(b, parsed(book), headers[:i]) for i, b in enumerate(batches)]
+    return 0, [head] + [batch_row(b, parsed(book), headers[:i], day_of(lent.decode("cp037"))) for i, b in enumerate(batches)]
 
 
 # ---- sound books and records

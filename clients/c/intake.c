@@ -1,4 +1,5 @@
-/* The intake as a client of the judge: intake BOOK FILE says in words what the judge answers to a file, EBCDIC or ASCII.
+/* The intake as a client of the judge: intake [--today YYYYMMDD] BOOK FILE says in words what the judge answers to a file, EBCDIC or ASCII.
+ * Without --today no rule is tested that needs today's date.
  *
  * Exit status: 0 accepted and every batch sound, 1 accepted with rejected batches, 2 refused, 3 no judgement.
  */
@@ -20,6 +21,7 @@ static const char *const FILE_REASONS[] = {
     [SRF_FILE_LENGTH] = "length no multiple of 850",
     [SRF_FILE_TOO_LONG] = "more than 65,535 records",
     [SRF_BOOK_UNSOUND] = "code book unsound",
+    [SRF_TODAY_NO_DAY] = "today is no real day",
     [SRF_NESTING] = "nesting",
     [SRF_REPORT_TOO_SHORT] = "report shorter than 64 * (1 + batches) bytes",
     [SRF_LOW_BYTE] = "a byte below 40 outside fillers",
@@ -48,6 +50,7 @@ static const char *const BATCH_REASONS[] = {
     [SRF_TOO_MANY_ACCOUNTS] = "more than 1,000 different TAS/BETC in the batch",
     [SRF_COUNT_DIFFERS] = "count differs",
     [SRF_AMOUNT_DIFFERS] = "amount differs",
+    [SRF_DATE_OUT_OF_RANGE] = "too old or too far ahead today, or not in the accounting month",
 };
 
 /* 004 chapter 2. */
@@ -260,7 +263,15 @@ static bool is_ascii(struct space file)
     return file.size >= 2 && file.bytes[0] == 0x46 && file.bytes[1] == 0x48;
 }
 
-static enum status judge(struct space book, struct space file)
+/* A today of size 0 is not lent. */
+static uint64_t answer_to(struct space file, struct space book, struct space today, uint8_t *report, size_t size)
+{
+    if (today.size == 0)
+        return srf_judge(file.bytes, file.size, book.bytes, book.size, report, size);
+    return srf_judge_with(file.bytes, file.size, book.bytes, book.size, today.bytes, today.size, report, size);
+}
+
+static enum status judge(struct space book, struct space file, struct space today)
 {
     size_t size = SRF_REPORT_SIZE(file.size);
     uint8_t *report = malloc(size);
@@ -268,7 +279,7 @@ static enum status judge(struct space book, struct space file)
 
     if (report == NULL)
         return fail("report", strerror(errno));
-    uint64_t answer = srf_judge(file.bytes, file.size, book.bytes, book.size, report, size);
+    uint64_t answer = answer_to(file, book, today, report, size);
     /* A line of its own: the others are the same for a file in either code. */
     if (is_ascii(file))
         puts("ASCII file");
@@ -279,18 +290,24 @@ static enum status judge(struct space book, struct space file)
 
 int main(int argc, char **argv)
 {
-    struct space book, file;
+    struct space book, file, today = { NULL, 0 };
+    bool dated = argc > 2 && strcmp(argv[1], "--today") == 0;
+    int first = dated ? 3 : 1;
     const char *fault;
 
-    if (argc != 3) {
-        fputs("usage: intake BOOK FILE\n", stderr);
+    if (argc != first + 2) {
+        fputs("usage: intake [--today YYYYMMDD] BOOK FILE\n", stderr);
         return NOT_JUDGED;
     }
-    if ((fault = lend(argv[1], &book)) != NULL)
-        return fail(argv[1], fault);
-    if ((fault = lend(argv[2], &file)) != NULL)
-        return fail(argv[2], fault);
-    enum status status = judge(book, file);
+    if (dated && (fault = lend_today(argv[2], &today)) != NULL) {
+        fprintf(stderr, "intake: --today %s: %s\n", argv[2], fault);
+        return NOT_JUDGED;
+    }
+    if ((fault = lend(argv[first], &book)) != NULL)
+        return fail(argv[first], fault);
+    if ((fault = lend(argv[first + 1], &file)) != NULL)
+        return fail(argv[first + 1], fault);
+    enum status status = judge(book, file, today);
     /* A status may not speak for words that nobody got. */
     if (fflush(stdout) != 0 || ferror(stdout))
         return fail("stdout", "what was said could not be written");

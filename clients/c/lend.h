@@ -1,4 +1,4 @@
-/* A file of any size as bytes to lend to the judge. */
+/* What is lent to the judge: a file of any size, and today. */
 #ifndef LEND_H
 #define LEND_H
 
@@ -13,5 +13,9 @@ struct space {
 /* Maps the file read-only, until the program ends. Returns NULL, or why it could not be mapped. The file has to stay as it is meanwhile:
  * one that is cut short ends the program (SIGBUS), and the judge promises nothing of bytes that change while it reads them. */
 const char *lend(const char *path, struct space *space);
+
+/* Writes the day as the judge takes it. Returns NULL, or what is wrong with a word that is no real day YYYYMMDD. The judge refuses such a
+ * day too, but an empty file or a damaged book before it. The bytes stand until the next call. */
+const char *lend_today(const char *word, struct space *today);
 
 #endif

@@ -1,6 +1,6 @@
-//! A judge of SRF files, read from document 01 (the rules), 02 (requests W1 to W3), 004 (layouts and values) and the readings. It stands in
-//! document 01's order: bytes, nesting, code book, file answers, report, batch reasons. "01 X" cites a section of document 01, "02 Wn" a
-//! request, "004 n" a field. Fields stay as they were sent and are corrected (02 W3) where they are read.
+//! A judge of SRF files, read from document 01 (the rules), 02 (requests W1 to W4), 004 (layouts and values) and the readings. It stands in
+//! document 01's order: bytes, nesting, code book, file answers, report, batch reasons; today (02 W4) follows the code book. "01 X" cites a
+//! section of document 01, "02 Wn" a request, "004 n" a field. Fields stay as they were sent and are corrected (02 W3) where they are read.
 
 use crate::ascii;
 use crate::correct::{self, digits, is_digits, move_left, value, BLANK, ZERO};
@@ -12,9 +12,10 @@ use std::ops::Range;
 type Raw = [u8; RECORD];
 
 /// Returns 0 and writes the rows, or returns reason x 100,000 + record and leaves the report untouched (01 File answers, Report).
-/// 02 W2: the answer is that of the translated file, which is as long as the file; the book stays as it is.
-pub fn judge(file: &[u8], book: &[u8], report: &mut [u8]) -> u64 {
-    match file_answer(&ascii::translated(file), book, report.len()) {
+/// 02 W2: the answer is that of the translated file, which is as long as the file; the book and today stay as they are. 02 W4: no bytes of
+/// today are nothing lent.
+pub fn judge(file: &[u8], book: &[u8], today: &[u8], report: &mut [u8]) -> u64 {
+    match file_answer(&ascii::translated(file), book, today, report.len()) {
         Ok(accepted) => {
             accepted.write(report);
             0
@@ -314,6 +315,129 @@ fn flag(entry: &[u8; 9]) -> bool {
     entry[8] == 1
 }
 
+// ---------------------------------------------------------------- 02 W4: today
+
+/// 01 Date: a real day. Days compare as they follow each other.
+#[derive(Clone, Copy, PartialEq, Eq, PartialOrd, Ord)]
+struct Day {
+    year: u64,
+    month: u64,
+    day: u64,
+}
+
+const FIRST_DAY: Day = Day { year: 1, month: 1, day: 1 };
+const LAST_DAY: Day = Day {
+    year: 9999,
+    month: 12,
+    day: 31,
+};
+
+/// 0 where there is no such month.
+fn days_in(year: u64, month: u64) -> u64 {
+    let leap = year.is_multiple_of(4) && (!year.is_multiple_of(100) || year.is_multiple_of(400));
+    match month {
+        1 | 3 | 5 | 7 | 8 | 10 | 12 => 31,
+        4 | 6 | 9 | 11 => 30,
+        2 if leap => 29,
+        2 => 28,
+        _ => 0,
+    }
+}
+
+impl Day {
+    /// 01 Date: Gregorian, years 0001 to 9999. Dates are not corrected (02 W3): every byte is a digit where it stands.
+    fn read(year: &[u8], month: &[u8], day: &[u8]) -> Option<Day> {
+        if ![year, month, day].into_iter().all(is_digits) {
+            return None;
+        }
+        let (year, month, day) = (decimal(year), decimal(month), decimal(day));
+        let is_real = year >= 1 && (1..=days_in(year, month)).contains(&day);
+        is_real.then_some(Day { year, month, day })
+    }
+
+    /// The last day has none after it, and is its own.
+    fn next(self) -> Day {
+        match self {
+            LAST_DAY => self,
+            Day { year, month, day } if day < days_in(year, month) => Day { day: day + 1, ..self },
+            Day { year, month: 12, .. } => Day {
+                year: year + 1,
+                ..FIRST_DAY
+            },
+            Day { month, .. } => Day {
+                month: month + 1,
+                day: 1,
+                ..self
+            },
+        }
+    }
+
+    /// The first day has none before it, and is its own.
+    fn previous(self) -> Day {
+        match self {
+            FIRST_DAY => self,
+            Day { day: 2.., .. } => Day { day: self.day - 1, ..self },
+            Day { year, month: 1, .. } => Day {
+                year: year - 1,
+                ..LAST_DAY
+            },
+            Day { year, month, .. } => Day {
+                month: month - 1,
+                day: days_in(year, month - 1),
+                ..self
+            },
+        }
+    }
+
+    /// Of its month.
+    fn last_of_month(self) -> Day {
+        Day {
+            day: days_in(self.year, self.month),
+            ..self
+        }
+    }
+}
+
+/// Today and the days that 02 W4 sets limits at, each reached from today day by day. Where the calendar ends before a limit it sets none,
+/// and its end is as good: no day lies past it.
+struct Today {
+    today: Day,
+    back_180: Day,
+    ahead_30: Day,
+    ahead_31: Day,
+}
+
+impl Today {
+    /// None where the bytes are not eight, or no real day.
+    fn read(lent: &[u8]) -> Option<Today> {
+        let lent: &[u8; 8] = lent.try_into().ok()?;
+        let today = plain_date(lent)?;
+        let walk = |steps, step: fn(Day) -> Day| (0..steps).fold(today, |day, _| step(day));
+        Some(Today {
+            today,
+            back_180: walk(180, Day::previous),
+            ahead_30: walk(30, Day::next),
+            ahead_31: walk(31, Day::next),
+        })
+    }
+
+    /// 004 17.
+    fn admits_creation(&self, created: Day) -> bool {
+        created <= self.today
+    }
+
+    /// 004 20, by the month's first day. The rule on years never decides alone: of later years, only a January is 31 days ahead or less.
+    fn admits_month(&self, first: Day) -> bool {
+        let year_holds = first.year <= self.today.year || (first.month == 1 && self.today.month == 12);
+        first <= self.ahead_31 && first.last_of_month() >= self.back_180 && year_holds
+    }
+
+    /// 004 59, with the first day of the accounting month.
+    fn admits_issue(&self, issued: Day, first: Day) -> bool {
+        (first..=first.last_of_month()).contains(&issued) && (self.back_180..=self.ahead_30).contains(&issued)
+    }
+}
+
 // ---------------------------------------------------------------- 01 File answers
 
 /// Numbered as in the table.
@@ -332,6 +456,8 @@ enum FileReason {
     RecordCount = 11,
     DetailCount = 12,
     TotalAmount = 13,
+    /// 02 W4.
+    NoToday = 14,
 }
 
 struct Refusal {
@@ -339,9 +465,15 @@ struct Refusal {
     record: usize,
 }
 
+/// What is lent beside the file and the report.
+struct Lent<'a> {
+    book: Book<'a>,
+    today: Option<Today>,
+}
+
 /// What the rows are written from.
 struct Accepted<'a> {
-    book: Book<'a>,
+    lent: Lent<'a>,
     batches: Vec<Batch<'a>>,
     records: usize,
     payments: u64,
@@ -363,13 +495,17 @@ fn refuse_if(applies: bool, reason: FileReason, record: usize) -> Result<(), Ref
     }
 }
 
-/// 01 File answers, in the table's order. `room` is the length of the report.
-fn file_answer<'a>(file: &'a [u8], book: &'a [u8], room: usize) -> Result<Accepted<'a>, Refusal> {
+/// 01 File answers, in the table's order, with 14 between 4 and 5 (02 W4). `room` is the length of the report.
+fn file_answer<'a>(file: &'a [u8], book: &'a [u8], today: &[u8], room: usize) -> Result<Accepted<'a>, Refusal> {
     refuse_if(file.is_empty(), FileReason::Empty, 0)?;
     let (records, part_of_a_record) = file.as_chunks::<RECORD>();
     refuse_if(!part_of_a_record.is_empty(), FileReason::Length, 0)?;
     refuse_if(records.len() > MOST_RECORDS, FileReason::TooManyRecords, 0)?;
     let book = Book::read(book).ok_or(refusal(FileReason::Book, 0))?;
+    let today = match today {
+        [] => None,
+        lent => Some(Today::read(lent).ok_or(refusal(FileReason::NoToday, 0))?),
+    };
     nesting(records).map_err(|record| refusal(FileReason::Nesting, record))?;
 
     let batches = batches(records);
@@ -396,7 +532,7 @@ fn file_answer<'a>(file: &'a [u8], book: &'a [u8], room: usize) -> Result<Accept
     refuse_if(total_amount != Some(total), FileReason::TotalAmount, last)?;
 
     Ok(Accepted {
-        book,
+        lent: Lent { book, today },
         batches,
         records: last,
         payments,
@@ -458,7 +594,7 @@ impl Accepted<'_> {
         let mut schedule_numbers = HashSet::with_capacity(self.batches.len());
         for batch in &self.batches {
             let (high, low) = split(batch.total);
-            let (reason, record, field) = match batch_rules(batch, &self.book, &mut schedule_numbers) {
+            let (reason, record, field) = match batch_rules(batch, &self.lent, &mut schedule_numbers) {
                 Ok(()) => (0, 0, 0),
                 Err(Fault { reason, record, field }) => (reason as u64, record, field),
             };
@@ -498,6 +634,8 @@ enum Reason {
     TooManyKinds = 12,
     Count = 13,
     Amount = 14,
+    /// 02 W4: too early or too late for today, or outside the accounting month.
+    Untimely = 15,
 }
 
 struct Fault {
@@ -577,9 +715,9 @@ impl<'a> Record<'a> {
         find(section, self.field(field)).ok_or(self.fault(field, Reason::NotInBook))
     }
 
-    fn date(self, field: u64, is_date: fn(&[u8]) -> bool) -> Check {
+    fn date(self, field: u64, read: fn(&[u8]) -> Option<Day>) -> Check<Day> {
         self.required(field)?;
-        self.must(is_date(self.field(field)), field, Reason::NoDate)
+        read(self.field(field)).ok_or(self.fault(field, Reason::NoDate))
     }
 
     /// 01 Routing number. Nine zeros pass by their prefix.
@@ -589,31 +727,15 @@ impl<'a> Record<'a> {
     }
 }
 
-/// 01 Date: Gregorian, years 0001 to 9999. Dates are not corrected (02 W3): every byte is a digit where it stands.
-fn is_day(year: &[u8], month: &[u8], day: &[u8]) -> bool {
-    if ![year, month, day].into_iter().all(is_digits) {
-        return false;
-    }
-    let (year, month, day) = (decimal(year), decimal(month), decimal(day));
-    let leap = year % 4 == 0 && (year % 100 != 0 || year % 400 == 0);
-    let days = match month {
-        1 | 3 | 5 | 7 | 8 | 10 | 12 => 31,
-        4 | 6 | 9 | 11 => 30,
-        2 if leap => 29,
-        2 => 28,
-        _ => 0,
-    };
-    year >= 1 && (1..=days).contains(&day)
-}
-
 /// CCYY-MM-DD (004 8, 56).
-fn hyphened_date(field: &[u8]) -> bool {
-    field[4] == HYPHEN && field[7] == HYPHEN && is_day(&field[..4], &field[5..7], &field[8..])
+fn hyphened_date(field: &[u8]) -> Option<Day> {
+    let is_hyphened = field[4] == HYPHEN && field[7] == HYPHEN;
+    Day::read(&field[..4], &field[5..7], &field[8..]).filter(|_| is_hyphened)
 }
 
-/// YYYYMMDD (004 17, 59).
-fn plain_date(field: &[u8]) -> bool {
-    is_day(&field[..4], &field[4..6], &field[6..])
+/// YYYYMMDD (004 17, 59; 02 W4).
+fn plain_date(field: &[u8]) -> Option<Day> {
+    Day::read(&field[..4], &field[4..6], &field[6..])
 }
 
 /// 004 10.
@@ -649,7 +771,7 @@ fn tas_kind(tas: &Raw) -> [u8; TAS_KIND.end - TAS_KIND.start] {
 }
 
 /// 01 Batch reasons, Order: header, each payment, 12, BT, field 9's sum. `schedule_numbers` holds those of all earlier batches.
-fn batch_rules<'a>(batch: &Batch<'a>, book: &Book, schedule_numbers: &mut HashSet<&'a [u8]>) -> Check {
+fn batch_rules<'a>(batch: &Batch<'a>, lent: &Lent, schedule_numbers: &mut HashSet<&'a [u8]>) -> Check {
     let [header, payments @ .., trailer] = batch.records else {
         return Ok(()); // no batch of a well nested file
     };
@@ -662,7 +784,7 @@ fn batch_rules<'a>(batch: &Batch<'a>, book: &Book, schedule_numbers: &mut HashSe
         number: batch.first + batch.records.len() as u64 - 1,
     };
 
-    let batch_reports = header_rules(header, book, schedule_numbers)?;
+    let batch_reports = header_rules(header, lent, schedule_numbers)?;
 
     let mut payment_ids = HashSet::with_capacity(batch.payments as usize);
     let mut number = header.number + 1;
@@ -673,7 +795,7 @@ fn batch_rules<'a>(batch: &Batch<'a>, book: &Book, schedule_numbers: &mut HashSe
             batch_reports,
             earlier: earlier as u64,
         };
-        tas += payment_rules(records, number, within, book, &mut payment_ids)?;
+        tas += payment_rules(records, number, within, lent, &mut payment_ids)?;
         number += records.len() as u64;
     }
     let few_kinds = tas <= MOST_KINDS_IN_BATCH || !too_many_kinds(payments);
@@ -693,12 +815,12 @@ fn too_many_kinds(records: &[Raw]) -> bool {
 }
 
 /// 01 Header. Gives whether field 14 is a CARS Reporter (never in BC, where field 29 decides).
-fn header_rules<'a>(header: Record<'a>, book: &Book, schedule_numbers: &mut HashSet<&'a [u8]>) -> Check<bool> {
+fn header_rules<'a>(header: Record<'a>, lent: &Lent, schedule_numbers: &mut HashSet<&'a [u8]>) -> Check<bool> {
     header.required(6)?;
     header.must(schedule_numbers.insert(value(header.field(6))), 6, Reason::Repeats)?;
     match letter(header.raw) {
-        CHECK => check_header_rules(header).map(|()| false),
-        _ => voucher_header_rules(header, book),
+        CHECK => check_header_rules(header, lent.today.as_ref()).map(|()| false),
+        _ => voucher_header_rules(header, &lent.book),
     }
 }
 
@@ -717,18 +839,29 @@ fn voucher_header_rules(header: Record, book: &Book) -> Check<bool> {
     header.in_book(14, &book.locations).map(flag)
 }
 
-/// 01 Header: BC.
-fn check_header_rules(header: Record) -> Check {
+/// 01 Header: BC. 02 W4: its rules are the last of their fields.
+fn check_header_rules(header: Record, today: Option<&Today>) -> Check {
     let joined: [u8; 14] = joined(header.field(18), header.field(19));
     header.must(correct::text(header.field(6)) == joined, 6, Reason::Unmatched)?;
     header.digits(15)?;
     header.listed(16, &REGULAR_CHECK)?;
-    header.date(17, plain_date)?;
+    let created = header.date(17, plain_date)?;
+    let is_timely = today.is_none_or(|today| today.admits_creation(created));
+    header.must(is_timely, 17, Reason::Untimely)?;
     let symbol = header.digits(18)?;
     header.must((1000..=9998).contains(&symbol), 18, Reason::Range)?;
     header.digits(19)?;
-    let month = header.digits(20)? / 100;
-    header.must((1..=12).contains(&month), 20, Reason::NoDate)
+    let first = accounting_month(header)?;
+    let is_timely = today.is_none_or(|today| today.admits_month(first));
+    header.must(is_timely, 20, Reason::Untimely)
+}
+
+/// The first day of the month in 004 20, MMYY. 02 W4: years 00 to 99 mean 2000 to 2099.
+fn accounting_month(header: Record) -> Check<Day> {
+    let digits = header.digits(20)?;
+    let (year, month) = (2000 + digits % 100, digits / 100);
+    header.must((1..=12).contains(&month), 20, Reason::NoDate)?;
+    Ok(Day { year, month, day: 1 })
 }
 
 /// A check symbol, then a serial number, each corrected, then blanks over a width of N bytes (004 6, 23). 02 W3 moves the fields, not what
@@ -751,12 +884,12 @@ struct InBatch<'a> {
 }
 
 /// 01 Batch reasons, Order: the detail, its other records in file order, then 9, 10 and 11. Gives the number of DT.
-fn payment_rules<'a>(records: &'a [Raw], number: u64, within: InBatch, book: &Book, payment_ids: &mut HashSet<&'a [u8]>) -> Check<usize> {
+fn payment_rules<'a>(records: &'a [Raw], number: u64, within: InBatch, lent: &Lent, payment_ids: &mut HashSet<&'a [u8]>) -> Check<usize> {
     let [detail, others @ ..] = records else {
         return Ok(0); // no payment of a well nested file
     };
     let detail = Record { raw: detail, number };
-    let (paid, reports) = detail_rules(detail, within, book, payment_ids)?;
+    let (paid, reports) = detail_rules(detail, within, lent, payment_ids)?;
 
     let count = |wanted| others.iter().filter(|raw| kind(raw) == Some(wanted)).count();
     let (tas, procurements) = (count(Kind::TasBetc), count(Kind::Procurement));
@@ -766,7 +899,7 @@ fn payment_rules<'a>(records: &'a [Raw], number: u64, within: InBatch, book: &Bo
         match kind(raw) {
             Some(Kind::Party) => party_rules(record, letter(detail.raw))?,
             Some(Kind::TasBetc) => {
-                let (amount, credit) = tas_rules(record, reports, book)?;
+                let (amount, credit) = tas_rules(record, reports, &lent.book)?;
                 let signed = if credit && tas > 1 { -amount } else { amount };
                 tas_sum = Some(tas_sum.unwrap_or(0) + signed);
             }
@@ -786,8 +919,8 @@ fn payment_rules<'a>(records: &'a [Raw], number: u64, within: InBatch, book: &Bo
 }
 
 /// 01 Detail, with fields ascending over all letters. Gives the amount and whether the payment's location is a CARS Reporter.
-fn detail_rules<'a>(detail: Record<'a>, within: InBatch, book: &Book, payment_ids: &mut HashSet<&'a [u8]>) -> Check<(u128, bool)> {
-    let letter = letter(detail.raw);
+fn detail_rules<'a>(detail: Record<'a>, within: InBatch, lent: &Lent, payment_ids: &mut HashSet<&'a [u8]>) -> Check<(u128, bool)> {
+    let (letter, Lent { book, today }) = (letter(detail.raw), lent);
 
     detail.required(23)?;
     detail.must(payment_ids.insert(value(detail.field(23))), 23, Reason::Repeats)?;
@@ -842,7 +975,11 @@ fn detail_rules<'a>(detail: Record<'a>, within: InBatch, book: &Book, payment_id
             let serial = detail.digits(58)?;
             let first = within.header.digits(19)?;
             detail.must(serial == first + within.earlier, 58, Reason::Unmatched)?;
-            detail.date(59, plain_date)?;
+            let issued = detail.date(59, plain_date)?;
+            if let Some(today) = today {
+                let first = accounting_month(within.header)?;
+                detail.must(today.admits_issue(issued, first), 59, Reason::Untimely)?;
+            }
         }
         NACHA => detail.listed(62, &ENTRY_CLASSES)?,
         _ => {}
@@ -901,6 +1038,10 @@ mod tests {
         let bytes = &mut record[place(field)];
         bytes.fill(BLANK);
         bytes.iter_mut().zip(value.bytes()).for_each(|(byte, ascii)| *byte = ebcdic(ascii));
+    }
+
+    fn bytes(ascii: &str) -> Vec<u8> {
+        ascii.bytes().map(ebcdic).collect()
     }
 
     fn record(code: &str, fields: &[(u64, &str)]) -> Raw {
@@ -1033,12 +1174,17 @@ mod tests {
     const ROOM: usize = 4096;
 
     fn answer(records: &[Raw]) -> u64 {
-        judge(records.as_flattened(), &book(), &mut [0; ROOM])
+        judge(records.as_flattened(), &book(), &[], &mut [0; ROOM])
     }
 
     fn rows(records: &[Raw]) -> Vec<[u64; 8]> {
+        rows_on("", records)
+    }
+
+    /// With this day lent.
+    fn rows_on(today: &str, records: &[Raw]) -> Vec<[u64; 8]> {
         let mut report = [0xEE; ROOM];
-        assert_eq!(judge(records.as_flattened(), &book(), &mut report), 0);
+        assert_eq!(judge(records.as_flattened(), &book(), &bytes(today), &mut report), 0);
         let number = |bytes: &[u8; 8]| u64::from_le_bytes(*bytes);
         let row = |row: &[u8; ROW]| std::array::from_fn(|i| number(&row.as_chunks().0[i]));
         let all: Vec<[u64; 8]> = report.as_chunks().0.iter().map(row).collect();
@@ -1189,7 +1335,7 @@ mod tests {
         assert_eq!(answer(&in_ascii(&records)), 500_004);
 
         let book_in_ascii: Vec<u8> = book().iter().map(|&byte| ascii::to_ascii(byte).unwrap_or(byte)).collect();
-        let judge_bytes = |bytes: &[u8], book: &[u8], room| judge(bytes, book, &mut vec![0; room]);
+        let judge_bytes = |bytes: &[u8], book: &[u8], room| judge(bytes, book, &[], &mut vec![0; room]);
         let sound = in_ascii(&smallest('N'));
         let bytes = sound.as_flattened();
         assert_eq!(judge_bytes(bytes, &book_in_ascii, ROOM), 800_001);
@@ -1238,7 +1384,7 @@ mod tests {
             let mut records = in_ascii(&smallest('N'));
             records[2][21] = of_detail;
             records[3][21] = of_party;
-            judge(records.as_flattened(), &book(), &mut vec![0; room])
+            judge(records.as_flattened(), &book(), &[], &mut vec![0; room])
         };
         assert_eq!(with(b'?', b'?', 128), 0);
         assert_eq!(with(0x09, 0xFF, 128), 700_003);
@@ -1254,7 +1400,7 @@ mod tests {
     fn file_answers() {
         let judge_bytes = |bytes: &[u8], book: &[u8], room| {
             let mut report = vec![0xEE; room];
-            let answer = judge(bytes, book, &mut report);
+            let answer = judge(bytes, book, &[], &mut report);
             assert!(answer == 0 || report.iter().all(|&byte| byte == 0xEE));
             answer
         };
@@ -1334,19 +1480,18 @@ mod tests {
     /// 01 Worked examples: dates.
     #[test]
     fn dates() {
-        let bytes = |date: &str| -> Vec<u8> { date.bytes().map(ebcdic).collect() };
         for date in ["2024-02-29", "2000-02-29", "0001-01-01", "9999-12-31", "2023-04-30"] {
-            assert!(hyphened_date(&bytes(date)), "{date}");
-            assert!(plain_date(&bytes(&date.replace('-', ""))), "{date}");
+            assert!(hyphened_date(&bytes(date)).is_some(), "{date}");
+            assert!(plain_date(&bytes(&date.replace('-', ""))).is_some(), "{date}");
         }
         #[rustfmt::skip]
         let none = ["1900-02-29", "2023-02-29", "0000-01-01", "2023-00-01", "2023-13-01", "2023-01-00", "2023-01-32", "2023-04-31"];
         for date in none {
-            assert!(!hyphened_date(&bytes(date)), "{date}");
-            assert!(!plain_date(&bytes(&date.replace('-', ""))), "{date}");
+            assert!(hyphened_date(&bytes(date)).is_none(), "{date}");
+            assert!(plain_date(&bytes(&date.replace('-', ""))).is_none(), "{date}");
         }
-        assert!(!hyphened_date(&bytes("2023 01-01")));
-        assert!(!hyphened_date(&bytes("2023-01-0A")));
+        assert!(hyphened_date(&bytes("2023 01-01")).is_none());
+        assert!(hyphened_date(&bytes("2023-01-0A")).is_none());
     }
 
     /// 01 Worked examples: routing prefixes; the readings: blank, then digits, then the prefix.
@@ -2188,7 +2333,7 @@ mod tests {
             sections[kind - 1] = bytes;
             let (mut records, mut report) = (smallest('N'), [0; ROOM]);
             put(&mut records[record], field, value);
-            let answer = judge(records.as_flattened(), &sections.concat(), &mut report);
+            let answer = judge(records.as_flattened(), &sections.concat(), &[], &mut report);
             (answer, report[ROW + 40])
         };
         let currencies = |codes: [&str; 2]| section_bytes(7, &codes.map(|code| (code, 3, &[][..])));
@@ -2281,5 +2426,211 @@ mod tests {
         assert_eq!(with(3, place(65).end - 1, 0x40), 500_004);
         assert_eq!(with(3, place(65).end - 1, 0x1F), 500_004);
         assert_eq!(with(5, place(103).start, 0x1F), 700_006);
+    }
+
+    /// 02 W4: the whole calendar, forth and back.
+    #[test]
+    fn calendar() {
+        let digits = |Day { year, month, day }| (year * 10_000 + month * 100 + day) as u32;
+        let (mut day, mut days) = (FIRST_DAY, vec![digits(FIRST_DAY)]);
+        while day < LAST_DAY {
+            let next = day.next();
+            assert!(day < next && next.previous() == day);
+            days.push(digits(next));
+            day = next;
+        }
+        assert!(FIRST_DAY.previous() == FIRST_DAY && LAST_DAY.next() == LAST_DAY);
+        let number = |date: &str| days.binary_search(&date.parse().unwrap()).ok();
+        assert_eq!(
+            ["00010101", "00011231", "19700101", "20000229", "20000301", "99991231"].map(number),
+            [0, 364, 719_162, 730_178, 730_179, 3_652_058].map(Some)
+        );
+        let long = |year| (1..=12).map(|month| days_in(year, month)).sum::<u64>();
+        assert_eq!([1900, 2000, 2023, 2024, 2100, 2400].map(long), [365, 366, 365, 366, 365, 366]);
+
+        for (today, back_180, ahead_30, ahead_31) in [
+            ("20240229", "20230902", "20240330", "20240331"),
+            ("20231231", "20230704", "20240130", "20240131"),
+            ("20000130", "19990803", "20000229", "20000301"),
+            ("19000130", "18990803", "19000301", "19000302"),
+            ("00010629", "00010101", "00010729", "00010730"),
+            ("00010101", "00010101", "00010131", "00010201"),
+            ("99991201", "99990604", "99991231", "99991231"),
+        ] {
+            let limits = Today::read(&bytes(today)).unwrap();
+            let expected = [today, back_180, ahead_30, ahead_31].map(number);
+            let found = [limits.today, limits.back_180, limits.ahead_30, limits.ahead_31];
+            assert_eq!(found.map(|day| days.binary_search(&digits(day)).ok()), expected, "{today}");
+        }
+    }
+
+    /// What is said of the smallest check batch, with today, its creation date, its accounting month and its issue date.
+    fn dated(letter: char, today: &str, [created, month, issued]: [&str; 3]) -> [u64; 3] {
+        let mut records = batch(letter, "S1", &[(12345, vec![])]);
+        put(&mut records[0], 17, created);
+        put(&mut records[0], 20, month);
+        put(&mut records[1], 59, issued);
+        rows_on(today, &file(&[records]))[1][5..].try_into().unwrap()
+    }
+
+    const CREATION: [u64; 3] = [15, 2, 17];
+    const MONTH: [u64; 3] = [15, 2, 20];
+    const ISSUE: [u64; 3] = [15, 3, 59];
+
+    /// 02 W4: the creation date is not after today.
+    #[test]
+    fn creation_dates() {
+        #[rustfmt::skip]
+        let cases = [
+            ("20240229", "20240229", SOUND), ("20240229", "20240228", SOUND), ("20240229", "20240301", CREATION),
+            ("20240229", "00010101", SOUND), ("20240229", "99991231", CREATION), ("20240229", "20250101", CREATION),
+            ("20240229", "20230301", SOUND), ("20240301", "20240229", SOUND), ("20240228", "20240229", CREATION),
+        ];
+        for (today, created, expected) in cases {
+            assert_eq!(dated('C', today, [created, "0224", "20240229"]), expected, "{today} {created}");
+        }
+        assert_eq!(dated('C', "20240229", ["20240230", "0224", "20240229"]), [5, 2, 17]);
+        assert_eq!(dated('C', "20240229", ["", "0224", "20240229"]), [1, 2, 17]);
+    }
+
+    /// 02 W4: today, accounting month and issue date, with a batch created long ago.
+    #[rustfmt::skip]
+    const MONTHS_AND_ISSUES: &[(&str, &str, &str, [u64; 3])] = &[
+        // 30, 31 and 32 days ahead. No issue date of a month 31 days ahead is 30 days ahead.
+        ("20240302", "0424", "20240401", SOUND), ("20240301", "0424", "20240401", ISSUE), ("20240229", "0424", "20240401", MONTH),
+        ("20240131", "0324", "20240301", SOUND), ("20240130", "0324", "20240301", ISSUE), ("20240129", "0324", "20240301", MONTH),
+        ("20230130", "0323", "20230301", SOUND), ("20230129", "0323", "20230301", ISSUE), ("20230128", "0323", "20230301", MONTH),
+        ("20000131", "0300", "20000301", SOUND), ("20000130", "0300", "20000301", ISSUE), ("20000129", "0300", "20000301", MONTH),
+        ("20240501", "0624", "20240601", ISSUE), ("20240430", "0624", "20240601", MONTH), ("20240502", "0624", "20240601", SOUND),
+        // 180 and 181 days back.
+        ("20240827", "0224", "20240229", SOUND), ("20240828", "0224", "20240229", MONTH), ("20240827", "0224", "20240228", ISSUE),
+        ("20230827", "0223", "20230228", SOUND), ("20230828", "0223", "20230228", MONTH), ("20230827", "0223", "20230227", ISSUE),
+        ("20241027", "0424", "20240430", SOUND), ("20241028", "0424", "20240430", MONTH), ("20240629", "1223", "20231231", MONTH),
+        ("20240628", "1223", "20231231", SOUND), ("20250629", "1224", "20241231", SOUND), ("20250630", "1224", "20241231", MONTH),
+        // December and January.
+        ("20231130", "0124", "20240101", MONTH), ("20231201", "0124", "20240101", ISSUE), ("20231202", "0124", "20240101", SOUND),
+        ("20231231", "0124", "20240130", SOUND), ("20231231", "0124", "20240131", ISSUE), ("20231231", "0224", "20240201", MONTH),
+        ("20240101", "1223", "20231231", SOUND), ("20240101", "0224", "20240131", ISSUE), ("20240101", "0224", "20240201", ISSUE),
+        ("20240101", "1224", "20231231", MONTH), ("20231231", "1222", "20231231", MONTH), ("20231201", "0123", "20231201", MONTH),
+        ("20231231", "0125", "20240101", MONTH),
+        // Issue dates 180 and 181 days old, 30 and 31 days ahead.
+        ("20240229", "0923", "20230902", SOUND), ("20240229", "0923", "20230901", ISSUE),
+        ("20240301", "0923", "20230903", SOUND), ("20240301", "0923", "20230902", ISSUE),
+        ("20240229", "0324", "20240330", SOUND), ("20240229", "0324", "20240331", ISSUE),
+        ("20240228", "0324", "20240329", SOUND), ("20240228", "0324", "20240330", ISSUE),
+        // The month's ends.
+        ("20240315", "0324", "20240301", SOUND), ("20240315", "0324", "20240229", ISSUE), ("20240315", "0324", "20240228", ISSUE),
+        ("20240315", "0324", "20240331", SOUND), ("20240315", "0324", "20240401", ISSUE), ("20240415", "0424", "20240430", SOUND),
+        ("20240415", "0424", "20240501", ISSUE), ("20240415", "0424", "20240331", ISSUE), ("20240215", "0224", "20240229", SOUND),
+        ("20240215", "0224", "20240301", ISSUE), ("20230215", "0223", "20230228", SOUND), ("20230215", "0223", "20230301", ISSUE),
+        ("20240315", "0324", "20230315", ISSUE), ("20240315", "0324", "19240315", ISSUE), ("20240315", "0324", "21240315", ISSUE),
+        // Years 00 and 99.
+        ("19991130", "0100", "20000101", MONTH), ("19991201", "0100", "20000101", ISSUE), ("19991202", "0100", "20000101", SOUND),
+        ("20000101", "1299", "19991231", MONTH), ("20000115", "0100", "19991231", ISSUE), ("19990615", "0699", "19990615", MONTH),
+        ("20991231", "1299", "20991231", SOUND), ("20991231", "0100", "21000101", MONTH), ("21000629", "1299", "20991231", SOUND),
+        ("21000630", "1299", "20991231", MONTH), ("21000101", "0100", "21000101", MONTH), ("21991231", "1299", "21991231", MONTH),
+        // The calendar's ends.
+        ("00010101", "0101", "00010101", MONTH), ("00010101", "1299", "00010101", MONTH), ("99991231", "1299", "99991231", MONTH),
+        ("99991231", "0100", "99991231", MONTH), ("99991201", "0100", "99991231", MONTH),
+    ];
+
+    #[test]
+    fn months_and_issues() {
+        for &(today, month, issued, expected) in MONTHS_AND_ISSUES {
+            let said = |letter, today| dated(letter, today, ["00010101", month, issued]);
+            assert_eq!(said('C', today), expected, "{today} {month} {issued}");
+            // Nothing lent, and batches of no checks.
+            assert_eq!(said('C', ""), SOUND, "{month} {issued}");
+            for letter in "NWIA".chars() {
+                assert_eq!(said(letter, today), SOUND, "{letter} {today} {month} {issued}");
+            }
+        }
+    }
+
+    /// 02 W4: 15 is the last of its field, and the fields stay in their order.
+    #[test]
+    fn order_of_untimely() {
+        let mut records = batch('C', "S1", &[(1, vec![]), (2, vec![])]);
+        let today = "20240229";
+        put(&mut records[0], 20, "1324");
+        put(&mut records[0], 15, "");
+        put(&mut records[3], 26, "");
+        put(&mut records[3], 59, "20240230");
+        // Each row: the first fault, then what mends it.
+        #[rustfmt::skip]
+        let steps: [([u64; 3], usize, u64, &str); 10] = [
+            ([1, 2, 15], 0, 15, "1"),
+            ([5, 2, 20], 0, 17, "20240301"),
+            ([15, 2, 17], 0, 17, "20240229"),
+            ([5, 2, 20], 0, 20, " 424"),
+            ([15, 2, 20], 0, 20, " 224"),
+            ([15, 3, 59], 1, 59, "20240201"),
+            ([1, 5, 26], 3, 26, "NAME"),
+            ([5, 5, 59], 3, 59, "20240301"),
+            ([15, 5, 59], 5, 99, ""),
+            ([15, 5, 59], 3, 59, "20240229"),
+        ];
+        for (expected, record, field, value) in steps {
+            assert_eq!(rows_on(today, &file(&[records.clone()]))[1][5..], expected);
+            put(&mut records[record], field, value);
+        }
+        assert_eq!(rows_on(today, &file(&[records]))[1][5..], [1, 7, 99]);
+    }
+
+    /// 02 W3 and W4: the month moves within its field; today stays in EBCDIC where the file is in ASCII (02 W2).
+    #[test]
+    fn today_beside_moved_and_ascii() {
+        for (month, expected) in [
+            (" 224", SOUND),
+            ("224 ", SOUND),
+            ("0224", SOUND),
+            (" 424", MONTH),
+            ("424", MONTH),
+            (" 324", ISSUE),
+        ] {
+            assert_eq!(dated('C', "20240229", ["20240229", month, "20240229"]), expected, "{month}");
+        }
+        let mut records = smallest('C');
+        assert_eq!(rows_on("20131126", &in_ascii(&records)), rows_on("20131126", &records));
+        assert_eq!(rows_on("20131126", &in_ascii(&records))[1][5..], SOUND);
+        assert_eq!(rows_on("20131125", &in_ascii(&records))[1][5..], CREATION);
+        put(&mut records[2], 59, "20131201");
+        assert_eq!(rows_on("20131126", &in_ascii(&records))[1][5..], ISSUE);
+    }
+
+    /// 02 W4: 14 for lent bytes that are no real day, after 4 and before 5.
+    #[test]
+    fn no_real_day() {
+        let sound = ['N', 'C'].map(smallest);
+        let on = |today: &[u8], records: &[Raw], book: &[u8], room| judge(records.as_flattened(), book, today, &mut vec![0; room]);
+        for records in [&sound[0], &sound[1], &in_ascii(&sound[1])] {
+            for today in ["", "20131126", "20240229", "20000229", "00010101", "99991231"] {
+                assert_eq!(on(&bytes(today), records, &book(), ROOM), 0, "{today}");
+            }
+            #[rustfmt::skip]
+            let none = [
+                "2024022", "202402290", "2", "2024022920240229", "20230229", "19000229", "21000229", "20240230", "00000101", "00000229",
+                "20240001", "20241301", "20240100", "20240132", "20240431", "        ", "2024 229", " 2024022", "2024022 ", "2024-2-9",
+                "2024-02-29", "20240A01", "--------",
+            ];
+            for today in none {
+                assert_eq!(on(&bytes(today), records, &book(), ROOM), 1_400_000, "{today}");
+            }
+            for today in [&b"20240229"[..], b"20131126", &[0; 8], &[0xF0; 8], &[0xFF; 8], b" ", &[0xF2; 850]] {
+                assert_eq!(on(today, records, &book(), ROOM), 1_400_000, "{today:?}");
+            }
+        }
+
+        let mut records = smallest('N');
+        let (real, none) = (bytes("20240229"), bytes("20230229"));
+        records[4][2] = 0x3F;
+        assert_eq!([&real, &none].map(|today| on(today, &records, &book(), 127)), [600_000, 1_400_000]);
+        put(&mut records[5], 1, "BT");
+        assert_eq!([&real, &none].map(|today| on(today, &records, &book(), 127)), [500_006, 1_400_000]);
+        assert_eq!([&real, &none].map(|today| on(today, &records, &book()[1..], 127)), [400_000; 2]);
+        assert_eq!(judge(&vec![0; 65_536 * RECORD], &book(), &none, &mut []), 300_000);
+        assert_eq!(judge(&vec![0; 65_535 * RECORD], &book(), &none, &mut []), 1_400_000);
+        assert_eq!(judge(&[0; 851], &book(), &none, &mut []), 200_000);
+        assert_eq!(judge(&[], &book(), &none, &mut []), 100_000);
     }
 }

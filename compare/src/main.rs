@@ -1,5 +1,6 @@
 //! Compares the two judges on inputs made from seeds: `compare [N [SEED]]`, or `compare --one INPUT_SEED [--write DIR]`. Each input is
-//! judged twice: as it is, and with every value moved within its field (02 W3), which must draw the same answer and the same report.
+//! judged twice: as it is, and with every value moved within its field (02 W3), which must draw the same answer and the same report. Where
+//! no day is lent (02 W4), the proved judge's entry that takes none must do as the other does.
 
 use std::collections::{BTreeMap, HashSet};
 use std::panic::{catch_unwind, AssertUnwindSafe};
@@ -12,6 +13,7 @@ use std::{env, fs, io, thread};
 use compare::ascii::{is_ascii, to_ascii, to_ebcdic, translated, ASCII_FH};
 use compare::layout::{of, RECORD};
 use compare::make::book::codes_ascend;
+use compare::make::day::{self, Day};
 use compare::make::justify::{corrected, justified, Justified, Page, EBCDIC};
 use compare::make::record::{code_of, fields_of, BLANK};
 use compare::make::{input_seed, Input, Piece, Recipe};
@@ -41,11 +43,11 @@ const ALLOWED: &[(u64, u64, &str)] = &[
     (1, 14, "NWIA"), (4, 14, "NWIA"),
     (1, 15, "C"), (2, 15, "C"),
     (1, 16, "C"), (3, 16, "C"),
-    (1, 17, "C"), (5, 17, "C"),
+    (1, 17, "C"), (5, 17, "C"), (15, 17, "C"),
     // 02 W3: never (1, 18), as no corrected 6 begins with the blanks that a blank 18 puts in front.
     (2, 18, "C"), (8, 18, "C"),
     (1, 19, "C"), (2, 19, "C"),
-    (1, 20, "C"), (2, 20, "C"), (5, 20, "C"),
+    (1, 20, "C"), (2, 20, "C"), (5, 20, "C"), (15, 20, "C"),
     // Detail
     (1, 23, "NCWIA"), (6, 23, "NCWIA"), (7, 23, "C"),
     (1, 24, "NCWIA"), (2, 24, "NCWIA"), (8, 24, "NCWIA"),
@@ -61,7 +63,7 @@ const ALLOWED: &[(u64, u64, &str)] = &[
     (1, 54, "A"), (1, 55, "A"),
     (1, 56, "A"), (5, 56, "A"),
     (1, 58, "C"), (2, 58, "C"), (7, 58, "C"),
-    (1, 59, "C"), (5, 59, "C"),
+    (1, 59, "C"), (5, 59, "C"), (15, 59, "C"),
     (1, 62, "N"), (3, 62, "N"),
     // Others
     (1, 66, "NCWI"),
@@ -281,6 +283,179 @@ impl Seen<'_> {
     }
 }
 
+/// What is lent as today, in words, the file answer, and whether bytes lent with a file that draws it are so.
+type Lent = (&'static str, u64, fn(&[u8], &[u8]) -> bool);
+
+const FEBRUARY_29: [u8; 4] = [0xF0, 0xF2, 0xF2, 0xF9];
+
+/// 02 W4: 14 is tested after 4 and before 5.
+#[rustfmt::skip]
+const LENT: [Lent; 16] = [
+    ("nothing, accepted", 0, |today, _| today.is_empty()),
+    ("a real day, accepted", 0, |today, _| day::read(today).is_some()),
+    ("7 bytes, 14", 14, |today, _| today.len() == 7),
+    ("9 bytes, 14", 14, |today, _| today.len() == 9),
+    ("ASCII digits, 14", 14, |today, _| today.len() == 8 && today.iter().all(u8::is_ascii_digit)),
+    ("29 February of a common year, 14", 14, |today, _| today.len() == 8 && today.ends_with(&FEBRUARY_29) && !today.starts_with(&[0xF0; 4])),
+    ("year 0000, 14", 14, |today, _| today.starts_with(&[0xF0; 4])),
+    ("month 00, 14", 14, |today, _| today.len() == 8 && today[4..6] == [0xF0; 2]),
+    ("day 00, 14", 14, |today, _| today.len() == 8 && today[6..] == [0xF0; 2]),
+    ("blanks, 14", 14, |today, _| today == [BLANK; 8]),
+    ("hyphens, 14", 14, |today, _| today.contains(&0x60)),
+    ("no real day with a file not nested, 14", 14, |_, file| !goes_on(&translated(file), |byte| byte)),
+    ("no real day, 1", 1, is_no_day),
+    ("no real day, 2", 2, is_no_day),
+    ("no real day, 3", 3, is_no_day),
+    ("no real day, 4", 4, is_no_day),
+];
+
+fn is_no_day(today: &[u8], _: &[u8]) -> bool {
+    !today.is_empty() && day::read(today).is_none()
+}
+
+fn lent_words(lent: &str) -> String {
+    format!("lent as today: {lent}")
+}
+
+/// 02 W4: today and the dates of a batch.
+struct Dates {
+    today: Option<Day>,
+    created: Option<Day>,
+    /// The first and the last day of the accounting month.
+    month: Option<[Day; 2]>,
+    is_month_moved: bool,
+    /// All issue dates, or the one at fault.
+    issued: Vec<Day>,
+}
+
+/// Batches in words, their kinds, their reason and field, and whether one of these is one of them.
+type Batches = (&'static str, &'static str, [u64; 2], fn(&Dates) -> bool);
+
+const SOUND: [u64; 2] = [0, 0];
+const CREATION: [u64; 2] = [15, 17];
+const MONTH: [u64; 2] = [15, 20];
+const ISSUE: [u64; 2] = [15, 59];
+
+/// 02 W4: each limit, what stands at it and what stands one past it. A month 31 days ahead is admitted, but has no day that is 30 days ahead.
+#[rustfmt::skip]
+const ABOUT_DATES: [Batches; 47] = [
+    ("created today, sound", "C", SOUND, |dates| dates.created == dates.ahead(0)),
+    ("created yesterday, sound", "C", SOUND, |dates| dates.created == dates.ahead(-1)),
+    ("created tomorrow, 15 at 17", "C", CREATION, |dates| dates.created == dates.ahead(1)),
+    ("month 30 days ahead, sound", "C", SOUND, |dates| dates.first() == dates.ahead(30)),
+    ("month 31 days ahead, 15 not before 59", "C", ISSUE, |dates| dates.first() == dates.ahead(31)),
+    ("month 32 days ahead, 15 at 20", "C", MONTH, |dates| dates.first() == dates.ahead(32)),
+    ("January 30 days ahead, sound", "C", SOUND, |dates| dates.first() == dates.ahead(30) && dates.is_january()),
+    ("January 31 days ahead, 15 not before 59", "C", ISSUE, |dates| dates.first() == dates.ahead(31) && dates.is_january()),
+    ("January 32 days ahead, 15 at 20", "C", MONTH, |dates| dates.first() == dates.ahead(32) && dates.is_january()),
+    ("1 February from 31 December, 15 at 20", "C", MONTH, |dates| dates.first() == dates.ahead(32) && dates.is_today(12, 31)),
+    ("December from 1 January, sound", "C", SOUND, |dates| dates.last() == dates.ahead(-1) && dates.is_today(1, 1)),
+    ("month 180 days back, sound", "C", SOUND, |dates| dates.last() == dates.ahead(-180)),
+    ("month 181 days back, 15 at 20", "C", MONTH, |dates| dates.last() == dates.ahead(-181)),
+    ("month of 28 days 180 days back, sound", "C", SOUND, |dates| dates.last() == dates.ahead(-180) && dates.days_in_month() == 28),
+    ("month of 28 days 181 days back, 15 at 20", "C", MONTH, |dates| dates.last() == dates.ahead(-181) && dates.days_in_month() == 28),
+    ("month of 29 days 180 days back, sound", "C", SOUND, |dates| dates.last() == dates.ahead(-180) && dates.days_in_month() == 29),
+    ("month of 29 days 181 days back, 15 at 20", "C", MONTH, |dates| dates.last() == dates.ahead(-181) && dates.days_in_month() == 29),
+    ("issue 180 days old, sound", "C", SOUND, |dates| dates.has_issue(dates.ahead(-180))),
+    ("issue 181 days old, 15 at 59", "C", ISSUE, |dates| dates.has_issue(dates.ahead(-181)) && dates.is_in_month()),
+    ("issue 30 days ahead, sound", "C", SOUND, |dates| dates.has_issue(dates.ahead(30))),
+    ("issue 31 days ahead, 15 at 59", "C", ISSUE, |dates| dates.has_issue(dates.ahead(31)) && dates.is_in_month()),
+    ("issue on the month's first day, sound", "C", SOUND, |dates| dates.has_issue(dates.first())),
+    ("issue the day before, 15 at 59", "C", ISSUE, |dates| dates.has_issue(dates.first().map(|day| day - 1)) && dates.is_about_today()),
+    ("issue on the month's last day, sound", "C", SOUND, |dates| dates.has_issue(dates.last())),
+    ("issue the day after, 15 at 59", "C", ISSUE, |dates| dates.has_issue(dates.last().map(|day| day + 1)) && dates.is_about_today()),
+    ("issue on 29 February, sound", "C", SOUND, |dates| dates.is_issued_on(2, 29)),
+    ("issue of today, sound", "C", SOUND, |dates| dates.has_issue(dates.ahead(0))),
+    ("today 29 February, sound", "C", SOUND, |dates| dates.is_today(2, 29)),
+    ("today 31 December, sound", "C", SOUND, |dates| dates.is_today(12, 31)),
+    ("today 1 January, sound", "C", SOUND, |dates| dates.is_today(1, 1)),
+    ("January 2000, sound", "C", SOUND, |dates| dates.first() == Some(day::number(2_000, 1, 1)) && dates.today.is_some()),
+    ("December 2099, sound", "C", SOUND, |dates| dates.last() == Some(day::number(2_099, 12, 31)) && dates.today.is_some()),
+    ("today in 1999, sound", "C", SOUND, |dates| dates.is_in_year(1_999)),
+    ("today in 1999, 15 at 20", "C", MONTH, |dates| dates.is_in_year(1_999)),
+    ("today in 2100, sound", "C", SOUND, |dates| dates.is_in_year(2_100)),
+    ("today in 2100, 15 at 20", "C", MONTH, |dates| dates.is_in_year(2_100)),
+    ("today 0001-01-01, 15 at 17", "C", CREATION, |dates| dates.today == Some(0)),
+    ("today 0001-01-01, 15 at 20", "C", MONTH, |dates| dates.today == Some(0)),
+    ("today 9999-12-31, 15 at 20", "C", MONTH, |dates| dates.today == Some(day::LAST)),
+    ("month moved, sound", "C", SOUND, |dates| dates.is_month_moved && dates.today.is_some()),
+    ("month moved, 180 days back, sound", "C", SOUND, |dates| dates.is_month_moved && dates.last() == dates.ahead(-180)),
+    ("month moved, 15 at 20", "C", MONTH, |dates| dates.is_month_moved),
+    ("month moved, 15 at 59", "C", ISSUE, |dates| dates.is_month_moved),
+    ("nothing lent, issue outside the month, sound", "C", SOUND, |dates| dates.today.is_none() && !dates.is_in_month()),
+    ("no checks, created tomorrow, sound", "NWIA", SOUND, |dates| dates.today.is_some() && dates.created == dates.ahead(1)),
+    ("no checks, month too far ahead, sound", "NWIA", SOUND, |dates| dates.today.is_some() && dates.first() > dates.ahead(31)),
+    ("no checks, issue 31 days ahead, sound", "NWIA", SOUND, |dates| dates.has_issue(dates.ahead(31))),
+];
+
+impl Dates {
+    /// Of a batch, with the place in it of the detail at fault, if one is, else 0.
+    fn of(today: &[u8], batch: &[u8], at_fault: usize) -> Dates {
+        let is_wanted = |place, record: &[u8]| is_detail(code_of(record)) && (at_fault == 0 || place == at_fault);
+        let details = batch
+            .chunks_exact(RECORD)
+            .enumerate()
+            .filter(|(place, record)| is_wanted(*place, record));
+        let month = corrected(batch, 20);
+        Dates {
+            today: day::read(today),
+            created: day::read(of(batch, 17)),
+            month: day::read_month(&month),
+            is_month_moved: month != of(batch, 20),
+            issued: details.filter_map(|(_, detail)| day::read(of(detail, 59))).collect(),
+        }
+    }
+
+    /// Nothing where nothing is lent.
+    fn ahead(&self, days: i64) -> Option<Day> {
+        self.today.map(|today| today + days)
+    }
+
+    fn first(&self) -> Option<Day> {
+        self.month.map(|[first, _]| first)
+    }
+
+    fn last(&self) -> Option<Day> {
+        self.month.map(|[_, last]| last)
+    }
+
+    fn days_in_month(&self) -> i64 {
+        self.month.map_or(0, |[first, last]| last - first + 1)
+    }
+
+    fn is_january(&self) -> bool {
+        self.first().is_some_and(|first| day::date(first)[1] == 1)
+    }
+
+    fn is_today(&self, month: i64, of_month: i64) -> bool {
+        self.today.is_some_and(|today| day::date(today)[1..] == [month, of_month])
+    }
+
+    fn is_issued_on(&self, month: i64, of_month: i64) -> bool {
+        let is_so = |day: &Day| day::date(*day)[1..] == [month, of_month];
+        self.today.is_some() && self.issued.iter().any(is_so)
+    }
+
+    fn is_in_year(&self, year: i64) -> bool {
+        self.today.is_some_and(|today| day::date(today)[0] == year)
+    }
+
+    fn has_issue(&self, day: Option<Day>) -> bool {
+        day.is_some_and(|day| self.issued.contains(&day))
+    }
+
+    fn is_in_month(&self) -> bool {
+        let lies = |day: &Day| self.month.is_some_and(|[first, last]| (first..=last).contains(day));
+        self.issued.iter().all(lies)
+    }
+
+    /// Whether the issue dates are neither too old nor too far ahead.
+    fn is_about_today(&self) -> bool {
+        let lies = |day: &Day| self.today.is_some_and(|today| (today - 180..=today + 30).contains(day));
+        self.issued.iter().all(lies)
+    }
+}
+
 impl Counts {
     fn add(&mut self, key: String, count: u64) {
         *self.0.entry(key).or_default() += count;
@@ -295,9 +470,17 @@ impl Counts {
         for (about, _) in ABOUT_ASCII.iter().filter(|(_, is_so)| is_so(file, answer)) {
             self.add(about_ascii_words(about), 1);
         }
+        let today = &trial.input.today[..];
+        for (lent, ..) in LENT
+            .iter()
+            .filter(|(_, given, is_so)| answer / 100_000 == *given && is_so(today, file))
+        {
+            self.add(lent_words(lent), 1);
+        }
         let (translated, page) = (translated(file), PAGES[usize::from(is_ascii(file))]);
         if answer == 0 {
             self.count_rows(is_ascii(file), &translated, report);
+            self.count_dates(today, &translated, report, page);
         }
         self.count_places(trial, &translated, page);
     }
@@ -318,12 +501,26 @@ impl Counts {
     }
 
     fn count_rows(&mut self, is_ascii: bool, file: &[u8], report: &[u8]) {
-        for [first, records, _, _, _, reason, _, field] in rows(report).skip(1) {
-            let batch = &file[(first as usize - 1) * RECORD..][..records as usize * RECORD];
+        for (batch, [.., reason, _, field]) in batches(file, report) {
             for column in [code_of(batch)].into_iter().chain(is_ascii.then_some(ASCII)) {
                 self.add(row_words(reason, field, column), 1);
                 if reason != 12 && has_many_tas(batch) {
                     self.add(many_tas_words(OF_MANY_TAS[usize::from(reason > 0)], column), 1);
+                }
+            }
+        }
+    }
+
+    fn count_dates(&mut self, today: &[u8], file: &[u8], report: &[u8], page: &str) {
+        for (batch, [first, .., reason, record, field]) in batches(file, report) {
+            if ![SOUND, CREATION, MONTH, ISSUE].contains(&[reason, field]) {
+                continue;
+            }
+            let at_fault = if field == 59 { record - first } else { 0 };
+            let (letter, dates) = (&code_of(batch)[1..], &Dates::of(today, batch, at_fault as usize));
+            for (about, letters, said, is_so) in ABOUT_DATES {
+                if letters.contains(letter) && said == [reason, field] && is_so(dates) {
+                    self.add(about_places_words(about, page), 1);
                 }
             }
         }
@@ -350,7 +547,7 @@ impl Counts {
     fn print(mut self) {
         let mut not_seen = Vec::new();
         println!("file answers:");
-        for answer in 0..=13 {
+        for answer in 0..=14 {
             print!("{answer:>4} {:>8}", self.take(answer_words(answer), &mut not_seen));
             // 01 File answers 1: a file without bytes is not in ASCII.
             if answer != 1 {
@@ -380,6 +577,12 @@ impl Counts {
         }
         println!("inputs about the places of values in their fields:");
         self.print_places(&ABOUT_PLACES.map(|(about, ..)| about), &mut not_seen);
+        println!("lent as today, and file answer:");
+        for (lent, ..) in LENT {
+            println!("{lent:>40} {:>6}", self.take(lent_words(lent), &mut not_seen));
+        }
+        println!("batches about their dates:");
+        self.print_places(&ABOUT_DATES.map(|(about, ..)| about), &mut not_seen);
         println!("moved at random, and judged as before by both:");
         self.print_places(&MOVED_AT_RANDOM, &mut not_seen);
         println!("not seen: {}", listed(not_seen));
@@ -405,6 +608,12 @@ fn rows(report: &[u8]) -> impl Iterator<Item = [u64; 8]> + '_ {
     report.chunks_exact(64).take(batches.saturating_add(1) as usize).map(row)
 }
 
+/// The batches of an accepted file, each with its row.
+fn batches<'a>(file: &'a [u8], report: &'a [u8]) -> impl Iterator<Item = (&'a [u8], [u64; 8])> {
+    let batch = |[first, records, ..]: [u64; 8]| &file[(first as usize - 1) * RECORD..][..records as usize * RECORD];
+    rows(report).skip(1).map(move |row| (batch(row), row))
+}
+
 /// What both judges made of an input; no answer where the independent one panicked.
 #[derive(Default)]
 struct Verdicts {
@@ -412,24 +621,33 @@ struct Verdicts {
     independent: Option<u64>,
     proved_space: Vec<u8>,
     independent_space: Vec<u8>,
+    /// 02 W4: by the entry that takes no day, where none is lent.
+    unlent: u64,
+    unlent_space: Vec<u8>,
     file_before: Vec<u8>,
     book_before: Vec<u8>,
+    today_before: Vec<u8>,
 }
 
 impl Verdicts {
     fn judge(&mut self, input: &Input) {
         self.file_before.clone_from(&input.file);
         self.book_before.clone_from(&input.book);
-        for space in [&mut self.proved_space, &mut self.independent_space] {
+        self.today_before.clone_from(&input.today);
+        for space in [&mut self.proved_space, &mut self.independent_space, &mut self.unlent_space] {
             space.clear();
             space.resize(GUARD, 0xA5);
             space.extend_from_slice(&input.report);
             space.resize(input.report.len() + 2 * GUARD, 0xA5);
         }
         let lent = GUARD..GUARD + input.report.len();
-        self.proved = proved::judge(&input.file, &input.book, &mut self.proved_space[lent.clone()]);
+        let Input { file, book, today, .. } = input;
+        self.proved = proved::judge(file, book, today, &mut self.proved_space[lent.clone()]);
+        if today.is_empty() {
+            self.unlent = proved::judge_unlent(file, book, &mut self.unlent_space[lent.clone()]);
+        }
         let report = &mut self.independent_space[lent];
-        self.independent = catch_unwind(AssertUnwindSafe(|| judge::judge(&input.file, &input.book, report))).ok();
+        self.independent = catch_unwind(AssertUnwindSafe(|| judge::judge(file, book, today, report))).ok();
     }
 
     /// In words, the first thing that is not as it must be.
@@ -437,8 +655,14 @@ impl Verdicts {
         if self.independent != Some(self.proved) {
             return Some(format!("answers: proved {}, independent {:?}", self.proved, self.independent));
         }
-        if self.file_before != input.file || self.book_before != input.book {
-            return Some("the file or the book was changed".to_string());
+        if self.file_before != input.file || self.book_before != input.book || self.today_before != input.today {
+            return Some("the file, the book or today was changed".to_string());
+        }
+        if input.today.is_empty() && (self.unlent, &self.unlent_space) != (self.proved, &self.proved_space) {
+            let (unlent, proved) = (self.unlent, self.proved);
+            return Some(format!(
+                "the entry without today: {unlent}, with nothing lent: {proved}, or their reports differ"
+            ));
         }
         let (one, other) = (lent(&self.proved_space), lent(&self.independent_space));
         if let Some(place) = one.iter().zip(other).position(|(one, other)| one != other) {
@@ -530,8 +754,8 @@ fn show(seed: u64, recipe: &Recipe, dropped: &HashSet<Piece>) -> Trial {
     let mut trial = Trial::default();
     trial.run(recipe, dropped);
     let Trial { input, verdicts, .. } = &trial;
-    let (file, book, report) = (input.file.len(), input.book.len(), input.report.len());
-    println!("input seed {seed}: file {file} bytes, book {book} bytes, report {report} bytes");
+    let [file, book, today, report] = [&input.file, &input.book, &input.today, &input.report].map(Vec::len);
+    println!("input seed {seed}: file {file} bytes, book {book} bytes, today {today} bytes, report {report} bytes");
     print!("{}", recipe.describe(dropped));
     print_verdict("proved", Some(verdicts.proved), &verdicts.proved_space);
     print_verdict("independent", verdicts.independent, &verdicts.independent_space);
@@ -625,6 +849,7 @@ fn write(folder: &Path, Trial { input, moved, .. }: &Trial) -> io::Result<()> {
     fs::create_dir_all(folder)?;
     fs::write(folder.join("file.bin"), &input.file)?;
     fs::write(folder.join("book.bin"), &input.book)?;
+    fs::write(folder.join("today.bin"), &input.today)?;
     fs::write(folder.join("moved-file.bin"), &moved.file)?;
     fs::write(folder.join("moved-book.bin"), &moved.book)?;
     fs::write(folder.join("report-size"), format!("{}\n", input.report.len()))

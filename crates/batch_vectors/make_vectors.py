@@ -4,6 +4,7 @@
 data/records.bin holds sound records, data/book.bin a code book, stdin a table with a case a line, stdout the rows (01 Report).
 The judge is reference/srf.py.
 """
+import datetime
 import pathlib
 import random
 import sys
@@ -63,10 +64,12 @@ def whole(letter, shape):
     return records + [with_two(end, payments, 9, 27), bytearray(ENDS[1])]
 
 
-# ---- the table: a case is a label, a letter, whether the schedule number repeats, a shape, changes
+# ---- the table: a case is a label, a letter, a word that says what is known beside the batch, a shape, changes
 
 ONE = (1, 1, 1, 1)  # payments; and of each DX, DT, DP
 HEAD, DETAIL, DX, DT, DP, BT = 2, 3, 4, 5, 6, 7  # the records of this shape
+REPEATS, LENT = 1, 2  # a case's word: the schedule number repeats, today is lent
+TODAY = datetime.date(2024, 2, 29)
 table, says, covered = [], [], set()
 single = {letter: [] for letter in LETTERS}  # the faults that a batch of one payment can have: a name and changes
 
@@ -79,7 +82,7 @@ def put(rec, field, value):
     return rec, start, end, data[:1] if len(set(data)) == 1 else data
 
 
-def judged(letter, shape, changes, repeats):
+def judged(letter, shape, changes, word):
     """The row of the batch and all its faults, or None."""
     records = whole(letter, shape)
     for rec, start, end, data in changes:
@@ -88,15 +91,15 @@ def judged(letter, shape, changes, repeats):
     batch = list(enumerate(records, 1))[1:-1]
     if not legal(records) or sum(map(is_header, records)) != 1:
         return None
-    wrong = [f for f in faults(batch, LISTS, repeats) if f[0]]
+    wrong = [f for f in faults(batch, LISTS, word == REPEATS, TODAY if word == LENT else None) if f[0]]
     payments = payments_of(batch)
     return [batch[0][0], len(batch), len(payments), *split(sum(map(paid_by, payments))), *(wrong or [(0, 0, 0)])[0]], wrong
 
 
-def add(label, letter, changes=(), shape=ONE, repeats=0, expect="sound"):
+def add(label, letter, changes=(), shape=ONE, word=0, expect="sound"):
     """A case, with what it shows: `sound`, `no batch`, or the reason, the record and the field at fault; None: some fault."""
-    found = judged(letter, shape, changes, repeats)
-    words = [letter, str(repeats), *map(str, shape), str(len(changes))]
+    found = judged(letter, shape, changes, word)
+    words = [letter, str(word), *map(str, shape), str(len(changes))]
     words += [w for rec, start, end, data in changes for w in (str(rec), str(start), str(end), data.hex().upper())]
     assert len(label) < LABEL, label
     table.append(label.ljust(LABEL) + " ".join(words))
@@ -110,14 +113,14 @@ def add(label, letter, changes=(), shape=ONE, repeats=0, expect="sound"):
     return wrong
 
 
-def one_fault(field, reason, letters, rec, change, shape=ONE, repeats=0, note=""):
+def one_fault(field, reason, letters, rec, change, shape=ONE, word=0, note=""):
     """The pair of field and reason for each of the letters, and nothing else at fault. `change` makes the changes from the letter."""
     for letter in letters:
         label = " ".join(filter(None, ["%d/%d" % (field, reason), letter, note]))
-        wrong = add(label, letter, change(letter), shape, repeats, (reason, rec, field))
+        wrong = add(label, letter, change(letter), shape, word, (reason, rec, field))
         assert wrong == [(reason, rec, field)], (label, wrong)
         covered.add((field, reason, letter))
-        if shape == ONE and not repeats:
+        if shape == ONE and not word:
             single[letter].append(("%d/%d" % (field, reason), change(letter)))
 
 
@@ -168,7 +171,7 @@ for letter in LETTERS:
 
 # header
 one_fault(6, 1, LETTERS, HEAD, holds(HEAD, 6, ""))
-one_fault(6, 6, LETTERS, HEAD, lambda letter: [], repeats=1)
+one_fault(6, 6, LETTERS, HEAD, lambda letter: [], word=REPEATS)
 one_fault(6, 7, "C", HEAD, holds(HEAD, 6, IDENT[:-1] + "9"))
 one_fault(7, 1, VOUCHERS, HEAD, holds(HEAD, 7, ""))
 one_fault(7, 2, VOUCHERS, HEAD, holds(HEAD, 7, "00 123"))
@@ -232,6 +235,12 @@ one_fault(58, 2, "C", DETAIL, serial("1234560A"))
 one_fault(58, 7, "C", DETAIL, serial("12345601"))
 one_fault(59, 1, "C", DETAIL, holds(DETAIL, 59, ""))
 one_fault(59, 5, "C", DETAIL, holds(DETAIL, 59, "00000101"))
+# W4: today, 2024-02-29, is lent: the last day of the sound records' month, on which they are created and issued
+one_fault(17, 15, "C", HEAD, holds(HEAD, 17, "20240301"), word=LENT)
+one_fault(59, 15, "C", DETAIL, holds(DETAIL, 59, "20240131"), word=LENT)
+for month, issued in [("0424", "20240401"), ("0823", "20230831")]:  # such a month has no day that is neither too old nor too far ahead
+    add("20/15 C " + month, "C", [put(HEAD, 20, month), put(DETAIL, 59, issued)], word=LENT, expect=(15, HEAD, 20))
+covered.add((20, 15, "C"))
 one_fault(62, 1, "N", DETAIL, holds(DETAIL, 62, ""))
 one_fault(62, 3, "N", DETAIL, holds(DETAIL, 62, "CTR"))
 
@@ -410,8 +419,8 @@ add("IDs that fall", "I", named("Z", (3, 4)) + named("Y", (5, 6)) + named("X", (
 add("IDs that fall, and the first again", "I", named("Z", (3, 4)) + named("Y", (5, 6)) + named("Z", (7, 8)), shape=(3, 1, 0, 0), expect=(6, 7, 23))
 add("two blank IDs: 1 at the first", "N", named("", (3, 4, 5, 6)), shape=(2, 1, 0, 0), expect=(1, 3, 23))
 add("a repeat that does not match its serial: 6", "C", named(IDENT, (5, 6)), shape=(2, 1, 0, 0), expect=(6, 5, 23))
-add("a schedule number that repeats and differs: 6", "C", [put(HEAD, 6, "X")], repeats=1, expect=(6, HEAD, 6))
-add("a blank schedule number that repeats: 1", "N", [put(HEAD, 6, "")], repeats=1, expect=(1, HEAD, 6))
+add("a schedule number that repeats and differs: 6", "C", [put(HEAD, 6, "X")], word=REPEATS, expect=(6, HEAD, 6))
+add("a blank schedule number that repeats: 1", "N", [put(HEAD, 6, "")], word=REPEATS, expect=(1, HEAD, 6))
 
 # two faults: the first in document 01's order
 add("header before detail", "N", [put(DETAIL, 26, ""), put(HEAD, 14, "")], expect=(1, HEAD, 14))
@@ -461,11 +470,11 @@ add("two batches", "N", [(n, 1, 2, ebcdic(code)) for n, code in ((6, "BT"), (7, 
 PAIRS = {
     6: {1: LETTERS, 6: LETTERS, 7: "C"}, 7: {1: VOUCHERS, 2: VOUCHERS}, 8: {1: VOUCHERS, 5: VOUCHERS}, 9: {1: VOUCHERS, 2: VOUCHERS, 14: VOUCHERS},
     10: {1: VOUCHERS, 3: VOUCHERS}, 12: {1: "W", 2: "W", 3: "W"}, 13: {1: "N", 2: "N", 3: "N"}, 14: {1: VOUCHERS, 4: VOUCHERS},
-    15: {1: "C", 2: "C"}, 16: {1: "C", 3: "C"}, 17: {1: "C", 5: "C"}, 18: {2: "C", 8: "C"}, 19: {1: "C", 2: "C"}, 20: {1: "C", 2: "C", 5: "C"},
+    15: {1: "C", 2: "C"}, 16: {1: "C", 3: "C"}, 17: {1: "C", 5: "C", 15: "C"}, 18: {2: "C", 8: "C"}, 19: {1: "C", 2: "C"}, 20: {1: "C", 2: "C", 5: "C", 15: "C"},
     23: {1: LETTERS, 6: LETTERS, 7: "C"}, 24: {1: LETTERS, 2: LETTERS, 8: LETTERS}, 25: {1: "C", 3: "C"}, 26: {1: LETTERS}, 28: {1: LETTERS, 4: LETTERS},
     29: {1: "C", 4: "C"}, 35: {4: LETTERS}, 36: {2: LETTERS}, 38: {4: LETTERS}, 42: {1: "W", 2: "W", 3: "W"}, 43: {1: "N", 2: "N", 3: "N"},
     44: {1: "W", 3: "W"}, 48: {3: "N"}, 51: {3: "I"}, 52: {4: LETTERS}, 54: {1: "A"}, 55: {1: "A"}, 56: {1: "A", 5: "A"}, 58: {1: "C", 2: "C", 7: "C"},
-    59: {1: "C", 5: "C"}, 62: {1: "N", 3: "N"}, 66: {1: "NCWI"}, 76: {11: LETTERS, 12: LETTERS}, 80: {1: LETTERS}, 84: {1: LETTERS}, 85: {1: LETTERS},
+    59: {1: "C", 5: "C", 15: "C"}, 62: {1: "N", 3: "N"}, 66: {1: "NCWI"}, 76: {11: LETTERS, 12: LETTERS}, 80: {1: LETTERS}, 84: {1: LETTERS}, 85: {1: LETTERS},
     86: {1: LETTERS, 4: LETTERS}, 87: {1: LETTERS, 2: LETTERS, 9: LETTERS}, 96: {1: LETTERS, 2: LETTERS, 10: LETTERS},
     99: {1: LETTERS, 2: LETTERS, 13: LETTERS}, 100: {1: LETTERS, 2: LETTERS, 14: LETTERS},
 }

@@ -6,6 +6,7 @@ a line, stdout what the judge has to answer. The judge is reference/srf.py. With
 answer, and how many batches each reason and field, in EBCDIC and in ASCII.
 """
 import collections
+import datetime
 import pathlib
 import random
 import string
@@ -19,6 +20,7 @@ from srf import (  # noqa: E402
 )
 LABEL = 56
 REPORT = 1024
+TODAY, SPACE = 512, 528  # where today's bytes stand in the book's space, and its size
 
 
 # ---- sound records, and files of them
@@ -140,9 +142,9 @@ def fill(space, start, end, data):
         space[i] = data[(i - start + 1) % len(data)]
 
 
-def lent(batches, changes, file, book):
-    """The bytes of the file and of the book, after the changes."""
-    records, codes = whole(batches), bytearray(BOOK.ljust(512, b"\0"))
+def lent(batches, changes, file, book, today):
+    """The bytes of the file, of the book and of today, after the changes."""
+    records, codes = whole(batches), bytearray(BOOK.ljust(SPACE, b"\0"))
     for kind, *rest in changes:
         if kind == "at":
             rec, start, end, data = rest
@@ -160,7 +162,7 @@ def lent(batches, changes, file, book):
         else:
             fill(codes, *rest)
     bytes_of_file = b"".join(map(bytes, records))
-    return bytes_of_file[:len(bytes_of_file) if file is None else file], bytes(codes[:len(BOOK) if book is None else book])
+    return bytes_of_file[:len(bytes_of_file) if file is None else file], bytes(codes[:len(BOOK) if book is None else book]), bytes(codes[TODAY:TODAY + (today or 0)])
 
 
 def words(batches, changes, lengths):
@@ -181,11 +183,14 @@ def flat(changes):
         yield from flat(one) if isinstance(one, list) else [one]
 
 
-def add(label, batches, *changes, expect, file=None, book=None, report=None):
+def add(label, batches, *changes, expect, file=None, book=None, report=None, today=None):
     """A case, with what the judge has to answer: the number of a refusal; for an accepted file the reason, the record and the field
     of each batch that is not sound, by the batch's number from 1; None: whatever the judge above says. And where it has a file that
-    is not in ASCII yet, the same in ASCII: where that says all its bytes, the answer is the same (02 W2)."""
-    changes, lengths = list(flat(changes)), dict(file=file, book=book, report=report)
+    is not in ASCII yet, the same in ASCII: where that says all its bytes, the answer is the same (02 W2). Today is bytes, or the text of
+    EBCDIC ones (02 W4)."""
+    today = today if today is None or isinstance(today, bytes) else ebcdic(today)
+    changes = list(flat(changes)) + ([code(TODAY, today)] if today else [])
+    lengths = dict(file=file, book=book, today=today and len(today), report=report)
     found, sent = add_case(label, batches, changes, lengths, expect)
     if ASCII not in changes and sent[:2] not in (b"", b"FH"):
         same = translated(sent.translate(LATIN)) == sent
@@ -194,9 +199,9 @@ def add(label, batches, *changes, expect, file=None, book=None, report=None):
 
 def add_case(label, batches, changes, lengths, expect):
     """What is found in a case, and its file."""
-    bytes_of_file, codes = lent(batches, changes, lengths["file"], lengths["book"])
+    bytes_of_file, codes, day = lent(batches, changes, lengths["file"], lengths["book"], lengths["today"])
     room = 64 * (1 + len(batches)) if lengths["report"] is None else lengths["report"]
-    answer, rows = judged(bytes_of_file, codes, room)
+    answer, rows = judged(bytes_of_file, codes, room, day)
     found = answer or {n: tuple(row[5:]) for n, row in enumerate(rows) if n and row[5]}
     assert expect is None or found == expect, (label, found, expect)
     assert len(label) < LABEL and room <= REPORT and (answer or len(rows) == 1 + len(batches)), label
@@ -937,6 +942,80 @@ for k in range(1, 121):
     batches = [(letter, rng.randrange(1, 4), rng.randrange(1, 3), rng.randrange(3), rng.randrange(3)) for letter in letters]
     add("several batches, %d" % k, batches, *[any_change(whole(batches)) for _ in range(rng.randrange(1, 6))], expect=None)
 
+# W4: today, and the dates of a check batch: created (17), the accounting month (20), issued (59)
+def day_text(day):
+    return day.strftime("%Y%m%d").rjust(8, "0")
+
+
+def dated(created, month, issued):
+    return [put(HEAD, 17, day_text(created)), put(HEAD, 20, month), put(DETAIL, 59, day_text(issued))]
+
+
+def later(day, days):
+    return day + datetime.timedelta(days=days)
+
+
+LATE = {field: fault(15, rec, field) for field, rec in ((17, HEAD), (20, HEAD), (59, DETAIL))}
+for month in ["0224", "0223", "0124", "1223", "0424", "0200", "0100", "1200", "0299", "1299", "0199"]:
+    year, number = 2000 + int(month[2:]), int(month[:2])
+    start = datetime.date(year, number, 1)
+    end = later(datetime.date(year + number // 12, number % 12 + 1, 1), -1)
+    second = later(start, 1)
+    for name, today, created, issued, answer in [
+            ("first day 30 days ahead", later(start, -30), later(start, -30), start, SOUND),
+            ("first day 31 days ahead", later(start, -31), later(start, -31), start, LATE[59]),  # and no day of it is less than 31 ahead
+            ("first day 32 days ahead", later(start, -32), later(start, -32), start, LATE[20]),
+            ("last day 180 days back", later(end, 180), end, end, SOUND),
+            ("last day 181 days back", later(end, 181), end, end, LATE[20]),
+            ("issued 180 days ago", later(second, 180), start, second, SOUND),
+            ("issued 181 days ago", later(second, 181), start, second, LATE[59]),
+            ("issued 30 days ahead", later(second, -30), later(second, -30), second, SOUND),
+            ("issued 31 days ahead", later(second, -31), later(second, -31), second, LATE[59]),
+            ("issued the day before", start, start, later(start, -1), LATE[59]),
+            ("issued the day after", end, end, later(end, 1), LATE[59]),
+            ("issued on the last day", end, end, end, SOUND),
+            ("created today", end, end, end, SOUND),
+            ("created tomorrow", later(end, -1), end, end, LATE[17])]:
+        add("%s, %s" % (month, name), [C], dated(created, month, issued), today=day_text(today), expect=answer)
+LEAP = datetime.date(2024, 2, 29)
+for today, answer in [("00010101", LATE[17]), ("99991231", LATE[20]), ("20000229", LATE[17]), ("19000228", LATE[17]), ("20240229", SOUND), ("20240228", LATE[17]),
+                      ("20240827", SOUND), ("20240828", LATE[20])]:
+    add("checks of 2024-02-29 on %s" % today, [C], today=today, expect=answer)
+    add("others of 2024-02-29 on %s" % today, [N, W, I, A], today=today, expect=SOUND)
+FAR = dated(datetime.date(2099, 12, 31), "0100", datetime.date(2000, 1, 31))
+add("nothing lent: dates that no day allows", [C], FAR, expect=SOUND)
+add("the same on 2024-02-29", [C], FAR, today="20240229", expect=LATE[17])
+add("17, 20 and 59 of a BN are not looked at", [N], FAR, today="20240229", expect=SOUND)
+add("issued in the month of another year", [C], dated(LEAP, "0223", datetime.date(2023, 2, 28)), today="20230228", expect=LATE[17])
+add("issued in another year's month", [C], dated(datetime.date(2024, 1, 1), "0124", datetime.date(2023, 1, 31)), today="20240131", expect=LATE[59])
+add("created on 0001-01-01", [C], put(HEAD, 17, "00010101"), today="20240229", expect=SOUND)
+add("created on 9999-12-31, today", [C], put(HEAD, 17, "99991231"), today="99991231", expect=LATE[20])
+add("the second payment's date is at fault", [("C", 2, 1, 0, 0)], put(5, 59, "20240131"), today="20240229", expect=fault(15, 5, 59))
+add("17 and 20 at fault: 17", [C], put(HEAD, 17, "20240301"), put(HEAD, 20, "0125"), today="20240229", expect=LATE[17])
+add("17 at fault, then 18", [C], put(HEAD, 17, "20240301"), put(HEAD, 18, "0999"), put(HEAD, 6, "0999" + SERIAL), today="20240229", expect=LATE[17])
+add("20 at fault, and 26 of the payment", [C], put(HEAD, 20, "0125"), put(DETAIL, 26, ""), today="20240229", expect=LATE[20])
+add("58 at fault, then 59", [C], put(DETAIL, 58, "X"), put(DETAIL, 59, "20240131"), today="20240229", expect=fault(7, DETAIL, 23))
+for field, rec, values in [(17, HEAD, {"": 1, "20240230": 5, "X": 5}), (20, HEAD, {"": 1, "022X": 2, "1324": 5, "0024": 5}), (59, DETAIL, {"": 1, "20240230": 5, "X": 5})]:
+    for value, reason in values.items():
+        add("%d holds '%s' on 2024-02-29" % (field, value), [C], put(rec, field, value), today="20240229", expect=fault(reason, rec, field))
+for value, before in [("224", 0), ("224", 1), ("0224", 0)]:
+    add("20 holds %s behind %d blanks on 2024-02-29" % (value, before), [C], placed(HEAD, 20, value, before), today="20240229", expect=SOUND)
+    add("20 holds %s behind %d blanks on 2024-08-28" % (value, before), [C], placed(HEAD, 20, value, before), today="20240828", expect=LATE[20])
+NO_DAYS = ["2024022", "202402290", "2", "00000101", "20230229", "19000229", "21000229", "20241301", "20240001", "20240100", "20240431", "2024-2-9", "2024022X", " 0240229",
+           "        ", b"20240229", b"\0" * 8, b"\xFA" * 8, "2024022920240229"]
+for n, lent_day in enumerate(NO_DAYS):
+    add("today is no day, %d" % n, [N], today=lent_day, expect=1400000)
+    add("today is no day, %d, checks" % n, [C], today=lent_day, expect=1400000)
+add("14 before 5", [N], put(DX, 66, ""), at(DX, 1, 2, ebcdic("BT")), today="20230229", expect=1400000)
+add("14 before 6", [N], report=127, today="20230229", expect=1400000)
+add("14 before 7", [N], at(DX, 30, 30, b"\x3F"), today="20230229", expect=1400000)
+add("14 before 8", [N], put(FH, 2, "X"), today="20230229", expect=1400000)
+add("4 before 14", [N], book=41, today="20230229", expect=400000)
+add("2 before 14", [N], file=849, today="20230229", expect=200000)
+add("1 before 14", [N], file=0, today="20230229", expect=100000)
+add("5 on a real day", [N], at(DX, 1, 2, ebcdic("BT")), today="20240229", expect=500004)
+add("6 on a real day", [N], report=127, today="20240229", expect=600000)
+
 # W3: files of several batches with values moved anywhere, and faults: the judge above decides
 MOVABLE = {"FH": [2], "DX": [65, 66], "DT": [77, 80, 84, 85, 86, 87], "DP": [91, 96], "BT": [99, 100], "FT": [103, 104, 105]}
 MOVABLE.update({"B" + letter: [6, 7, 9, 10, 12, 13, 14, 15, 18, 19, 20] for letter in LETTERS})
@@ -960,7 +1039,7 @@ for k in range(1, 81):
     moves = [any_move(whole(batches)) for _ in range(rng.randrange(1, 9))]
     add("several batches, moved, %d" % k, batches, *moves, *[any_change(whole(batches)) for _ in range(rng.randrange(2))], expect=None)
 
-assert set(answers["EBCDIC"]) == set(range(14)) - {3}  # 3 takes a file of more than 55,704,750 bytes
+assert set(answers["EBCDIC"]) == set(range(15)) - {3}  # 3 takes a file of more than 55,704,750 bytes
 assert set(answers["ASCII"]) == set(answers["EBCDIC"]) - {1} and set(pairs["ASCII"]) == set(pairs["EBCDIC"])
 (here / "data" / "ascii.bin").write_bytes(LATIN)
 write_cases(here, BOOK, ENDS + [r for letter in LETTERS for r in TEMPLATES[letter]], table, LABEL, says)

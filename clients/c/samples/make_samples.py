@@ -40,12 +40,17 @@ def shuffled():
     return whole(FH, put(BN, f9=amount(2 * CENTS)), *payments, put(BT, f99="%08d" % 2, f100=amount(2 * CENTS)), payments=2, cents=2 * CENTS)
 
 
-def checks():
-    symbol, serial = "4321", "00000001"
-    ident, location = symbol + serial, held(BN, 14)
-    return whole(
-        FH, put(BN, "BC", f6=ident, f15="1234", f16="0", f17="20240229", f18=symbol, f19=serial, f20="0224"),
-        put(DN, "DC", f23=ident, f25="0", f29=location, f58=serial, f59="20240229"), put(DX, f65=ident), BT)
+def checks(created="20240229", month="0224", issued=("20240229",)):
+    """A check batch of a day and an accounting month, with a payment for each issue date."""
+    symbol, location, count = "4321", held(BN, 14), len(issued)
+    serials = ["%08d" % number for number in range(1, count + 1)]
+    header = put(BN, "BC", f6=symbol + serials[0], f15="1234", f16="0", f17=created, f18=symbol, f19=serials[0], f20=month)
+    payments = []
+    for serial, day in zip(serials, issued):
+        ident = symbol + serial
+        payments += [put(DN, "DC", f23=ident, f25="0", f29=location, f58=serial, f59=day), put(DX, f65=ident)]
+    trailer = put(BT, f99="%08d" % count, f100=amount(count * CENTS))
+    return whole(FH, header, *payments, trailer, payments=count, cents=count * CENTS)
 
 
 def rejected():
@@ -92,6 +97,8 @@ SAMPLES = {
     "large": large(),
     "shuffled": shuffled(),
     "checks": checks(),
+    "ahead": checks("20231130", "0124", ["20240101", "20240102"]),  # written ahead, for the next year
+    "other-month": checks("20240129", "0324", ["20240229"]),
     "moved": moved(),
     "rejected": rejected(),
     "kinds": kinds(),
@@ -101,6 +108,7 @@ SAMPLES = {
     "empty": b"",
     "sound-ascii": in_ascii(shipped),
     "shuffled-ascii": in_ascii(shuffled()),
+    "checks-ascii": in_ascii(checks()),
     "rejected-ascii": in_ascii(rejected()),
     "tab-ascii": in_ascii(tab()),
 }

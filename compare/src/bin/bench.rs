@@ -1,7 +1,8 @@
 //! The proved judge, the independent judge and a bare scan on the same large files: `bench [RECORDS...]`, default 1,000, 8,000 and 65,535.
 //! Each time is the best of nine rounds, in each of which every contestant has its turn, so that all see the same machine. A file whose
 //! bytes all have a character is then measured once more in ASCII (02 W2), in rounds of its own, so that neither drives the other from the
-//! caches. An ordinary file is then measured once more, both ways, with every field moved (02 W3).
+//! caches. An ordinary file is then measured once more, both ways, with every field moved (02 W3). No day is lent (02 W4) but where the
+//! file's name says so.
 
 use std::collections::BTreeSet;
 use std::hint::black_box;
@@ -11,7 +12,7 @@ use std::time::{Duration, Instant};
 use compare::ascii::{to_ascii, to_ebcdic, CODE_PAGE_037};
 use compare::make::book::{self, Book};
 use compare::make::justify::{justified, Justified, EBCDIC};
-use compare::make::record::{add_record, code_of, ebcdic, fields_of, finish, set, set_number, set_text, write_text, BLANK};
+use compare::make::record::{add_record, code_of, ebcdic, fields_of, finish, set, set_number, set_text, write_number, write_text, BLANK};
 use compare::random::Random;
 use compare::{judge, layout, proved};
 
@@ -19,6 +20,9 @@ const ROUNDS: usize = 9;
 const LOCATIONS: usize = 200_000;
 const SIZES: [usize; 3] = [1_000, 8_000, 65_535];
 const SYMBOL: u128 = 1_234;
+/// The day that checks are written and issued on, and the accounting month.
+const TODAY: u128 = 20_240_229;
+const MONTH: u128 = 224;
 const MAIN: u128 = 1_234;
 /// The most kinds of TAS/BETC in a batch (02 W1).
 const KINDS: usize = 1_000;
@@ -116,7 +120,7 @@ impl File {
             let serial = u128::from(schedule_number);
             set_numbers(
                 header,
-                [(15, SYMBOL), (16, 0), (17, 20_240_229), (18, SYMBOL), (19, serial), (20, 224)],
+                [(15, SYMBOL), (16, 0), (17, TODAY), (18, SYMBOL), (19, serial), (20, MONTH)],
             );
         } else {
             set_number(header, 6, u128::from(schedule_number));
@@ -150,7 +154,7 @@ impl File {
         let start = self.bytes.len();
         self.pay(&check_id(serial), cents);
         let detail = &mut self.bytes[start..start + layout::RECORD];
-        set_numbers(detail, [(25, 0), (29, location), (58, u128::from(serial)), (59, 20_240_229)]);
+        set_numbers(detail, [(25, 0), (29, location), (58, u128::from(serial)), (59, TODAY)]);
     }
 
     fn party(&mut self, id: &Id) {
@@ -617,11 +621,11 @@ impl Contest<'_> {
         Contest { file, reports, best }
     }
 
-    fn round(&mut self, name: &str, book: &[u8], rejected: usize) {
+    fn round(&mut self, name: &str, book: &[u8], today: &[u8], rejected: usize) {
         let (file, [own, theirs]) = (self.file, &mut self.reports);
         let (_, scan) = time(|| bare_scan(file));
-        let (answer, independent) = time(|| judge::judge(file, book, theirs));
-        let (proved_answer, proved) = time(|| proved::judge(file, book, own));
+        let (answer, independent) = time(|| judge::judge(file, book, today, theirs));
+        let (proved_answer, proved) = time(|| proved::judge(file, book, today, own));
         if (answer, &*theirs) != (proved_answer, &*own) || answer != 0 {
             eprintln!("{name}: answers {proved_answer} and {answer}, or the reports differ");
             exit(1);
@@ -639,7 +643,7 @@ impl Contest<'_> {
 fn compare_reports(name: &str, file: &[u8], moved: &[u8], book: &[u8]) {
     let report = |file: &[u8]| {
         let mut report = vec![0; 64 * (1 + file.len() / layout::RECORD / 4)];
-        (judge::judge(file, book, &mut report), report)
+        (judge::judge(file, book, &[], &mut report), report)
     };
     if report(file) != report(moved) {
         eprintln!("{name}: the report is another than before");
@@ -650,14 +654,14 @@ fn compare_reports(name: &str, file: &[u8], moved: &[u8], book: &[u8]) {
 /// The best times for the file, and for the file in ASCII.
 type Times = ([Duration; 3], Option<[Duration; 3]>);
 
-fn measure(name: &str, file: &[u8], book: &[u8], rejected: usize) -> Times {
+fn measure(name: &str, file: &[u8], book: &[u8], today: &[u8], rejected: usize) -> Times {
     let mut ebcdic = Contest::new(file);
-    (0..ROUNDS).for_each(|_| ebcdic.round(name, book, rejected));
+    (0..ROUNDS).for_each(|_| ebcdic.round(name, book, today, rejected));
     let Some(twin) = in_ascii(file) else {
         return (ebcdic.best, None);
     };
     let mut ascii = Contest::new(&twin);
-    (0..ROUNDS).for_each(|_| ascii.round(&format!("{name}, in ASCII"), book, rejected));
+    (0..ROUNDS).for_each(|_| ascii.round(&format!("{name}, in ASCII"), book, today, rejected));
     if ascii.reports != ebcdic.reports {
         eprintln!("{name}: the reports in ASCII and in EBCDIC differ");
         exit(1);
@@ -697,6 +701,8 @@ fn main() {
     };
     let of_both_flags = || (0..200).map(|number| (number, number as u8 % 2));
     let (small, large) = (sound_book(1_000, of_both_flags()), sound_book(LOCATIONS, of_both_flags()));
+    let mut today = [0; 8];
+    write_number(&mut today, TODAY);
     let debits = sound_book(1_000, (0..KINDS).map(|number| (number, 0)));
     println!(
         "| file | records | bare scan, ms | Rust judge, ms | proved judge, ms | proved / Rust | proved / scan | times (a) \
@@ -712,29 +718,35 @@ fn main() {
         let of_one_hash = |zero, bytes: &[u8]| ids_of_one_hash_and_start(payments, end_in_the_last(classes), zero, bytes);
         let printable: Vec<u8> = (0x20..=0x7E).rev().collect();
         type Make<'a> = &'a dyn Fn() -> Vec<u8>;
-        let ordinary: [(&str, Make, &[u8]); 6] = [
+        // Each with what is lent as today.
+        let ordinary: [(&str, Make, &[u8], &[u8]); 7] = [
             (
                 "(a) one batch, IDs ascend",
                 &|| one_batch(records, &ids(ascending(records))),
                 &small,
+                &[],
             ),
             (
                 "(b) one batch, IDs shuffled",
                 &|| one_batch(records, &ids(shuffled(records))),
                 &small,
+                &[],
             ),
             (
                 "(c) batches of four records",
                 &|| batches_of_four(records, &ascending(records)),
                 &small,
+                &[],
             ),
             (
                 "(d) 30 DT and 10 DP a payment, 200,000 locations",
                 &|| many_accounts(records),
                 &large,
+                &[],
             ),
-            ("(e) check batch, 200,000 locations", &|| checks(records), &large),
-            ("(f) batches of 100 payments", &|| batches_of_hundred(records), &small),
+            ("(e) check batch, 200,000 locations", &|| checks(records), &large, &[]),
+            ("(e) with today lent", &|| checks(records), &large, &today),
+            ("(f) batches of 100 payments", &|| batches_of_hundred(records), &small, &[]),
         ];
         // Each with the batches that are rejected.
         let hostile: [(&str, Make, usize); 23] = [
@@ -876,20 +888,26 @@ fn main() {
             ),
         ];
         // Each with whether it is measured moved, too.
-        let ordinary = ordinary.map(|(name, make, book)| (name, make, book, 0, true));
-        let hostile = hostile.map(|(name, make, rejected)| (name, make, &small[..], rejected, false));
-        let of_kinds = of_kinds.map(|(name, make, rejected)| (name, make, &debits[..], rejected, false));
+        let ordinary = ordinary.map(|(name, make, book, today)| (name, make, book, today, 0, today.is_empty()));
+        let hostile = hostile.map(|(name, make, rejected)| (name, make, &small[..], &[][..], rejected, false));
+        let of_kinds = of_kinds.map(|(name, make, rejected)| (name, make, &debits[..], &[][..], rejected, false));
         let of_kinds = of_kinds.into_iter().filter(|_| accounts > KINDS);
         let mut proved_a = None;
-        for (name, make, book, rejected, is_moved) in ordinary.into_iter().chain(hostile).chain(of_kinds) {
+        for (name, make, book, today, rejected, is_moved) in ordinary.into_iter().chain(hostile).chain(of_kinds) {
             let file = make();
-            let times = measure(name, &file, book, rejected);
+            let times = measure(name, &file, book, today, rejected);
             let proved_a = *proved_a.get_or_insert(times.0[2]);
             print(name, records, times, proved_a, None);
             if is_moved {
                 let (name, moved) = (format!("{name}, every field moved"), moved(&file));
                 compare_reports(&name, &file, &moved, book);
-                print(&name, records, measure(&name, &moved, book, rejected), proved_a, Some(times.0[2]));
+                print(
+                    &name,
+                    records,
+                    measure(&name, &moved, book, today, rejected),
+                    proved_a,
+                    Some(times.0[2]),
+                );
             }
         }
     }

@@ -1,11 +1,13 @@
 //! Damages: to one field, one record, the file's end or the book (01 File answers, Batch reasons).
 
 use super::book::{Book, BookDamage, BOOK_DAMAGES};
+use super::day;
 use super::fields::{break_field, split, Rule, Way, ALL, BATCH_RULES, FILE_RULES, LABEL_RULES};
 use super::justify::{corrected, Justified, EBCDIC};
 use super::record::{code_of, fields_of, set, write_text, BLANK, CODES};
 use super::sender::{unprintable, Sender};
 use super::sound::{join_schedule_number, Batch, Payment, Place};
+use super::today::Today;
 use super::Input;
 use crate::ascii::{to_ebcdic, ASCII_FH};
 use crate::layout::{of, place, FILLERS, RECORD};
@@ -252,6 +254,7 @@ impl Aim<'_> {
 pub struct Target<'a> {
     pub input: &'a mut Input,
     pub book: &'a Book,
+    pub today: &'a Today,
 }
 
 impl Target<'_> {
@@ -291,8 +294,26 @@ impl Target<'_> {
         }
         let book = self.book;
         break_field(self.record(index), field, way, book, random);
+        if let Way::AtLimit = way {
+            self.set_at_limit(at, index, field, random);
+        }
         if joined {
             self.join(at, index, field);
+        }
+    }
+
+    /// 02 W4: the limits of the accounting month are those of the header as it is.
+    fn set_at_limit(&mut self, at: Place, index: usize, field: u64, random: &Random) {
+        let header = match at {
+            Place::Detail(batch, _) => self.find(Place::Header(batch)),
+            _ => Some(index),
+        };
+        let month = header.and_then(|header| day::read_month(&corrected(self.record(header), 20)));
+        let day = self.today.at_limit(field, month.unwrap_or(day::month_of(self.today.day)), random);
+        let bytes = &mut self.record(index)[place(field)];
+        match field {
+            20 => day::write_month(bytes, day),
+            _ => day::write(bytes, day),
         }
     }
 

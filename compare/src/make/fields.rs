@@ -1,6 +1,7 @@
 //! Each field that 01 has a rule for: what a sound record holds there, and ways to break it.
 
 use super::book::{near, Book, BETC, COUNTRIES, CURRENCIES, INPUT_SYSTEMS, LOCATIONS, PAYMENT_TYPES, STATES};
+use super::day::days_in;
 use super::justify::{justified, Justified, EBCDIC};
 use super::record::{read_number, set, set_text, write_number, write_text, BLANK};
 use crate::layout::place;
@@ -39,6 +40,8 @@ pub enum Way {
     Step,
     NoDate,
     AnyDate,
+    /// 02 W4: a date at a limit, or one past it.
+    AtLimit,
     Prefix,
     Month,
     Value(&'static str),
@@ -86,6 +89,8 @@ const NUMBER: &[Way] = &[Blank, NonDigit, NonDigit, OneBlank, AnyDigits, Moved, 
 const SUM: &[Way] = &[Blank, NonDigit, OneBlank, Step, Step, Step, Zeros, Moved, Split, Shifted, NoBlankBeside];
 const DATE: &[Way] = &[Blank, NoDate, NoDate, AnyDate, NonDigit, OneByte, Shifted];
 #[rustfmt::skip]
+const DATE_OF_CHECKS: &[Way] = &[Blank, NoDate, NoDate, AnyDate, NonDigit, OneByte, Shifted, AtLimit, AtLimit, AtLimit, AtLimit, AtLimit];
+#[rustfmt::skip]
 const ROUTING: &[Way] = &[Blank, NonDigit, OneBlank, Prefix, Prefix, Zeros, Moved, Split, Shifted, NoBlankBeside];
 const REQUIRED: &[Way] = &[Blank, Blank, Blank, AnyText, Moved];
 #[rustfmt::skip]
@@ -111,11 +116,12 @@ pub const BATCH_RULES: [Rule; 44] = [
         NoBlankBeside]),
     rule(15, "C", Digits, NUMBER),
     rule(16, "C", List(&["0"]), &[Blank, Value("1"), OneByte, NearByte]),
-    rule(17, "C", Date, DATE),
+    rule(17, "C", Date, DATE_OF_CHECKS),
     rule(18, "C", Elsewhere, &[Blank, NonDigit, OneBlank, Zeros, Value("0999"), Value("1000"), Value("9998"), Value("9999"), AnyDigits,
         Value(" 999"), Value("999"), Split, Shifted]),
     rule(19, "C", Elsewhere, &[Blank, NonDigit, OneBlank, Step, Value("99999999"), AnyDigits, Moved, Split, Shifted, NoBlankBeside]),
-    rule(20, "C", MonthYear, &[Blank, NonDigit, OneBlank, Month, Month, Moved, Split, Shifted, Value(" 113"), Value("13")]),
+    rule(20, "C", MonthYear, &[Blank, NonDigit, OneBlank, Month, Month, Moved, Split, Shifted, Value(" 113"), Value("13"),
+        AtLimit, AtLimit, AtLimit, AtLimit, AtLimit, AtLimit]),
     rule(24, VOUCHER, Elsewhere, &[Blank, NonDigit, OneBlank, Step, Zeros, Value("99999999999999999999"), Moved, Moved, Split, Shifted,
         NoBlankBeside]),
     rule(24, "C", Elsewhere, &[Blank, NonDigit, Step, Zeros, Value("00000000009999999999"), Value("00000000010000000000"), AnyDigits,
@@ -141,7 +147,7 @@ pub const BATCH_RULES: [Rule; 44] = [
     rule(55, "A", Text, REQUIRED),
     rule(56, "A", Date, DATE),
     rule(58, "C", Elsewhere, &[Blank, NonDigit, OneBlank, Step, AnyDigits, Moved, Split, Shifted, NoBlankBeside]),
-    rule(59, "C", Date, DATE),
+    rule(59, "C", Date, DATE_OF_CHECKS),
     rule(62, "N", List(&["CCD", "PPD", "IAT", "CTX"]), &[Blank, OneByte, NearByte, OtherCase, Value("CTR"), Value("CTX"), Shifted]),
     rule(66, ALL, Text, REQUIRED),
     rule(80, ALL, Text, REQUIRED),
@@ -221,12 +227,7 @@ pub fn set_code(record: &mut [u8], field: u64, code: Option<(&[u8], u8)>) {
 /// A real day, CCYY-MM-DD.
 fn date(random: &Random) -> String {
     let (year, month) = (random.between(1, 9_999), random.between(1, 12));
-    let last = match month {
-        2 if year % 4 == 0 && (year % 100 != 0 || year % 400 == 0) => 29,
-        2 => 28,
-        4 | 6 | 9 | 11 => 30,
-        _ => 31,
-    };
+    let last = days_in(year as i64, month as i64) as u64;
     let day = random.pick(&[last, random.between(1, last)]);
     random.rarely(4, random.pick(&BORDER_DATES).to_string(), format!("{year:04}-{month:02}-{day:02}"))
 }
@@ -274,7 +275,7 @@ pub fn break_field(record: &mut [u8], field: u64, way: Way, book: &Book, random:
             bytes.fill(BLANK);
             bytes.iter_mut().zip(code).for_each(|(byte, code)| *byte = *code);
         }
-        Repeat => {}
+        Repeat | AtLimit => {}
         RepeatMoved | Moved => {
             EBCDIC.move_value(bytes, justified(field), random);
         }

@@ -225,7 +225,7 @@ mod tests {
             Recipe::new(input_seed(3, index)).make(&HashSet::new(), &mut input);
             let judged = |input: &Input| {
                 let mut report = input.report.clone();
-                (judge(&input.file, &input.book, &mut report), report)
+                (judge(&input.file, &input.book, &input.today, &mut report), report)
             };
             let before = judged(&input);
             moved += input.move_all(index).0;

@@ -1,12 +1,14 @@
-//! Inputs for the judges, each from one seed: a code book, a file and a report space.
+//! Inputs for the judges, each from one seed: a code book, a file, a day (02 W4) and a report space.
 
 pub mod book;
 pub mod damage;
+pub mod day;
 pub mod fields;
 pub mod justify;
 pub mod record;
 pub mod sender;
 pub mod sound;
+pub mod today;
 
 use std::collections::HashSet;
 use std::fmt::Write;
@@ -19,6 +21,7 @@ use damage::{Damage, Planned, Target, When};
 use justify::{move_record, Moves, Page, TOTALS};
 use sender::{printable, turn, Sender, CAREFUL};
 use sound::{Batch, Place, Style, Writer};
+use today::Today;
 
 /// What may be left out of a recipe; a header stands for its batch, a detail for its payment.
 #[derive(Clone, Copy, PartialEq, Eq, Hash)]
@@ -29,6 +32,8 @@ pub enum Piece {
     Ascii,
     /// What moves values within their fields.
     Moves,
+    /// The day that is lent; the dates stay.
+    Today,
 }
 
 /// All that is drawn for one input.
@@ -39,6 +44,7 @@ pub struct Recipe {
     batches: Vec<Batch>,
     damages: Vec<Planned>,
     moves: Option<Moves>,
+    today: Today,
     /// Any bytes in place of the records.
     any_bytes: Option<usize>,
     large_book: Option<usize>,
@@ -50,6 +56,7 @@ pub struct Recipe {
 pub struct Input {
     pub file: Vec<u8>,
     pub book: Vec<u8>,
+    pub today: Vec<u8>,
     pub report: Vec<u8>,
     places: Vec<Place>,
 }
@@ -109,6 +116,11 @@ impl Recipe {
         // Few batches of planned kinds are drawn, and their DT have many fields to move.
         let has_kinds = batches.iter().any(|batch| batch.kinds.is_some());
         let moves = Moves::new(if has_kinds { 4 } else { 2 }, random);
+        let mut today = Today::new(random);
+        // 02 W4: 3 is tested before 14, and few files are so long.
+        if matches!(large, 3 | 6) && random.chance(2) {
+            today.damage(random);
+        }
         Recipe {
             seed,
             sender,
@@ -116,6 +128,7 @@ impl Recipe {
             batches,
             damages,
             moves,
+            today,
             any_bytes,
             large_book,
             report_beside,
@@ -138,6 +151,7 @@ impl Recipe {
         pieces.extend(records.into_iter().map(Piece::Record));
         pieces.extend((self.sender != Sender::Ebcdic).then_some(Piece::Ascii));
         pieces.extend(self.moves.map(|_| Piece::Moves));
+        pieces.extend((!self.today.lent.is_empty()).then_some(Piece::Today));
         pieces
     }
 
@@ -154,6 +168,8 @@ impl Recipe {
             book.make_printable();
         }
         self.make_file(&book, dropped, random, input);
+        input.today.clear();
+        input.today.extend_from_slice(self.lent(dropped));
         input.book.clear();
         match self.large_book {
             Some(size) => book.write_large(size, &mut input.book),
@@ -175,6 +191,7 @@ impl Recipe {
             book,
             dropped,
             printable: self.sender.is_printable(),
+            today: &self.today,
             input,
         }
         .write(&self.batches, random);
@@ -195,7 +212,8 @@ impl Recipe {
                 move_records(input, late, |_| true);
             }
             let damages = self.kept(dropped).filter(|planned| planned.when == when);
-            damages.for_each(|planned| Target { input, book }.apply(planned));
+            let today = &self.today;
+            damages.for_each(|planned| Target { input, book, today }.apply(planned));
         }
         if let Some(length) = self.any_bytes {
             input.file.resize(length, 0);
@@ -208,6 +226,13 @@ impl Recipe {
 
     fn moves(&self, dropped: &HashSet<Piece>) -> Option<Moves> {
         self.moves.filter(|_| !dropped.contains(&Piece::Moves))
+    }
+
+    fn lent(&self, dropped: &HashSet<Piece>) -> &[u8] {
+        match dropped.contains(&Piece::Today) {
+            true => &[],
+            false => &self.today.lent,
+        }
     }
 
     fn turn(&self, dropped: &HashSet<Piece>, file: &mut [u8]) {
@@ -242,6 +267,12 @@ impl Recipe {
             self.sender
         };
         let _ = writeln!(text, "{sender:?}, {:?}, {:?}", self.moves(dropped), self.style);
+        let ([year, month, day], lent) = (day::date(self.today.day), self.lent(dropped));
+        let about = if self.today.about { "made about" } else { "any, not made about" };
+        let _ = writeln!(
+            text,
+            "dates of checks {about} {year:04}-{month:02}-{day:02}, today lent as {lent:02X?}"
+        );
         let stays = |place| !dropped.contains(&Piece::Record(place));
         let batches = self.batches.iter().enumerate();
         for (batch, plan) in batches.filter(|(batch, _)| stays(Place::Header(*batch))) {

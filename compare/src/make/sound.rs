@@ -3,9 +3,11 @@
 use std::collections::HashSet;
 
 use super::book::{Book, BETC, LOCATIONS};
+use super::day::{self, Day};
 use super::fields::{set_code, set_sound, ALL, BATCH_RULES, FILE_RULES};
 use super::justify::corrected;
 use super::record::{add_noise, add_record, ebcdic, fields_of, set, set_number, set_text, write_number, write_text, BLANK, MOST};
+use super::today::Today;
 use super::{Input, Piece};
 use crate::ascii::CODE_PAGE_037;
 use crate::layout::place;
@@ -384,6 +386,10 @@ struct Owner<'a> {
     letter: char,
     plan: &'a Payment,
     accounts: Option<&'a Accounts<'a>>,
+    /// The first and the last day of the accounting month.
+    month: [Day; 2],
+    /// 02 W4: some issue dates of the batch lie just outside what is admitted.
+    careless: bool,
     /// The number in the batch of the payment's first DT.
     first_tas: usize,
     id: [u8; 20],
@@ -403,6 +409,7 @@ pub struct Writer<'a> {
     pub dropped: &'a HashSet<Piece>,
     /// 02 W2: text is to be of characters that ASCII has.
     pub printable: bool,
+    pub today: &'a Today,
     pub input: &'a mut Input,
 }
 
@@ -447,7 +454,8 @@ impl<'a> Writer<'a> {
             random.pick(&[last, last, last + 1, 0]),
             random.below(random.pick(&[last, last, 1_000])),
         );
-        self.header(number, batch, u128::from(symbol), u128::from(first_serial), random);
+        let (month, careless) = (self.today.month(random), random.chance(10));
+        self.header(number, batch, u128::from(symbol), u128::from(first_serial), month, random);
         let accounts = batch.kinds.map(|kinds| Accounts::new(batch, kinds, self.book, self.printable));
         let (mut serial, mut tas) = (first_serial, 0);
         for (payment, plan) in batch.payments.iter().enumerate() {
@@ -463,6 +471,8 @@ impl<'a> Writer<'a> {
                     letter,
                     plan,
                     accounts: accounts.as_ref(),
+                    month,
+                    careless,
                     first_tas,
                     id,
                     amount: 0,
@@ -483,16 +493,25 @@ impl<'a> Writer<'a> {
         id
     }
 
-    fn header(&mut self, number: usize, batch: &Batch, symbol: u128, first_serial: u128, random: &Random) {
-        let (style, location) = (self.style, self.location(batch.payments[0].reporter, random));
+    fn header(&mut self, number: usize, batch: &Batch, symbol: u128, first_serial: u128, month: [Day; 2], random: &Random) {
+        let (style, today, location) = (self.style, self.today, self.location(batch.payments[0].reporter, random));
         let header = self.record(&format!("B{}", batch.letter), Place::Header(number), batch.letter, random);
         if batch.letter == 'C' {
             set_number(header, 18, symbol);
             set_number(header, 19, first_serial);
             join_schedule_number(header);
+            if today.about {
+                day::write(&mut header[place(17)], today.created(random));
+                day::write_month(&mut header[place(20)], month[0]);
+            }
         } else {
             style.label(number, &mut header[place(6)]);
             set_code(header, 14, location);
+            // 02 W4: only of checks are these asked.
+            if random.chance(4) {
+                day::write(&mut header[place(17)], today.day + 1);
+                day::write_month(&mut header[place(20)], today.day + 100);
+            }
         }
     }
 
@@ -526,14 +545,24 @@ impl<'a> Writer<'a> {
             false => amount,
         };
         let location = self.location(owner.plan.reporter, random);
-        let place = Place::Detail(owner.batch, owner.payment);
-        let record = self.record(&format!("D{}", owner.letter), place, owner.letter, random);
+        let issued = match check {
+            true => {
+                let careless = owner.careless && random.chance(2);
+                self.today.about.then(|| self.today.issued(owner.month, careless, random))
+            }
+            false => random.chance(4).then_some(self.today.day + 31),
+        };
+        let at = Place::Detail(owner.batch, owner.payment);
+        let record = self.record(&format!("D{}", owner.letter), at, owner.letter, random);
         set(record, 23, &owner.id);
         set_number(record, 24, owner.amount);
         if check {
             set_text(record, 25, if voided { "1" } else { "0" });
             set_code(record, 29, location);
             set(record, 58, &owner.id[4..12]);
+        }
+        if let Some(issued) = issued {
+            day::write(&mut record[place(59)], issued);
         }
     }
 

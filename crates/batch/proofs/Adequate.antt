@@ -16,6 +16,7 @@ use Rattle.record.specs.Value.{held}
 use Rattle.record.specs.Codes.{letterByte, codeBytes, codeOf}
 use Rattle.money.specs.Money.{split, total}
 use Rattle.money.proofs.Amounts.{worth-split}
+use Rattle.calendar.specs.declared.Today.{Today}
 use Rattle.book.specs.Book.{Contents}
 use Rattle.nesting.specs.Division.{Record, All, DX, DT, DP, Own, Payment, Batch, paymentOnto, paymentsOnto, LegalPayment, LegalBatch}
 use Rattle.nesting.specs.Paid.{paid, paidBy}
@@ -39,10 +40,10 @@ unfolding total
 total-more f [] p = omega arith
 total-more f (q ∷ ps) p = rw (total-more f ps p) (omega arith)
 
-module _ (book : Contents) (crowded : Bool) where
+module _ (book : Contents) (today : Today) (crowded : Bool) where
   -- what the walk knows after the earlier payments of a batch, of which it was told so: its header is record k, and with the open payment closed the findings come to g
   record Knows (h : Record) (k : ℕ) (earlier : List Payment) (g : Finding) (s : State) : Type 0 where
-    header : s .header ≡ head book crowded k h
+    header : s .header ≡ head book today crowded k h
     payments : s .payments ≡ length earlier
     total : s .total ≡ split (paidBy earlier)
     accounts : s .accounts ≡ accountCount earlier
@@ -50,9 +51,9 @@ module _ (book : Contents) (crowded : Bool) where
 
   -- what the rules of a header find
   abbrev begin : Bool → ℕ → Record → List Finding
-  begin repeats n h = findings (context h repeats false (headerCodes book h) []) n h (rulesFor (letterOf h) header)
+  begin repeats n h = findings (context today h repeats false (headerCodes book h) []) n h (rulesFor (letterOf h) header)
 
-  at-header : (repeats : Bool) (n : ℕ) (h : Record) → Knows h n [] (after sound (begin repeats n h)) (opening book repeats crowded n h)
+  at-header : (repeats : Bool) (n : ℕ) (h : Record) → Knows h n [] (after sound (begin repeats n h)) (opening book today repeats crowded n h)
   unfolding opening context headerCodes letterOf paidBy accountCount total
   at-header repeats n h = record { header = refl; payments = refl; total = refl; accounts = refl; finding = empty-end _ n _ refl }
 
@@ -60,7 +61,7 @@ module _ (book : Contents) (crowded : Bool) where
   abbrev ends : Record → ℕ → List Payment → ℕ → Record → List Finding
   ends h k ps n r =
       found (choose crowded 12 0) k 76
-      ∷ (findings (context h false false noCodes ps) n r (rulesFor (letterOf h) trailer)
+      ∷ (findings (context today h false false noCodes ps) n r (rulesFor (letterOf h) trailer)
       ++ summary k h ps
       ∷ [])
 
@@ -75,12 +76,12 @@ module _ (book : Contents) (crowded : Bool) where
   -- the walk at a detail that follows the earlier payments
   abbrev begun : Record → ℕ → List Payment → Finding → ℕ → Payment → Context → State
   begun h k earlier g n p c =
-      state (after g (findings c n (p .detail) (rulesFor (letterOf h) detail))) (head book crowded k h) (opened n c (split (paid p)))
+      state (after g (findings c n (p .detail) (rulesFor (letterOf h) detail))) (head book today crowded k h) (opened n c (split (paid p)))
       (length earlier + 1) (split (paidBy earlier + paid p)) (accountCount earlier)
 
   at-detail : (h : Record) (k : ℕ) (earlier : List Payment) (g : Finding) (s : State) → Knows h k earlier g s
       → (n : ℕ) (p : Payment) (repeats : Bool)
-      → detailed book s n (p .detail) repeats ≡ begun h k earlier g n p (detailContext book h repeats earlier (p .detail))
+      → detailed book s n (p .detail) repeats ≡ begun h k earlier g n p (detailContext book today h repeats earlier (p .detail))
   unfolding detailed payingContext contextOf payerIn head context detailContext payer letterOf paid
   at-detail h k earlier g s w n p repeats = rw (w .header, w .payments, w .total, w .accounts, w .finding) (simp worth-split)
 
@@ -209,14 +210,14 @@ module _ (book : Contents) (crowded : Bool) where
 
     -- what the division says of a payment that follows the earlier ones
     abbrev ownOf : Record → List Payment → ℕ → Payment → List Finding
-    ownOf h earlier n p = payment book (letterOf h) (detailContext book h (marks n) earlier (p .detail)) n p
+    ownOf h earlier n p = payment book (letterOf h) (detailContext book today h (marks n) earlier (p .detail)) n p
 
     run-payment : (h : Record) (k : ℕ) (earlier : List Payment) (g : Finding) (s : State) → Knows h k earlier g s
         → (l : Letter) (n : ℕ) (p : Payment) → LegalPayment (letterByte l) p → (ys : List Record)
         → Comes n s (paymentOnto p ys) (n + size p) ys (Knows h k (earlier ++ p ∷ []) (after g (ownOf h earlier n p)))
     unfolding knowing opened head letterOf paidBy accountCount stepOf codeBytes
     run-payment h k earlier g s w l n p legal ys =
-        let c = detailContext book h (marks n) earlier (p .detail) in
+        let c = detailContext book today h (marks n) earlier (p .detail) in
         let t = begun h k earlier g n p c in
         record {
           end = knowing t (others (letterOf h) c (t .finding) n p) (endOf book n c p) (accountCount earlier + length (p .accounts));
@@ -250,7 +251,7 @@ module _ (book : Contents) (crowded : Bool) where
     -- payments, one after the other
     run-payments : (h : Record) (k : ℕ) (earlier : List Payment) (g : Finding) (s : State) → Knows h k earlier g s
         → (l : Letter) (n : ℕ) (ps : List Payment) → All (LegalPayment (letterByte l)) ps → (ys : List Record)
-        → Comes n s (paymentsOnto ps ys) (n + sizes ps) ys (Knows h k (earlier ++ ps) (after g (markedPayments book marks h n earlier ps)))
+        → Comes n s (paymentsOnto ps ys) (n + sizes ps) ys (Knows h k (earlier ++ ps) (after g (markedPayments book today marks h n earlier ps)))
     unfolding markedPayments sizes total
     run-payments h k earlier g s w l n [] legal ys =
         record { end = s; ran = ap (λ (m : ℕ). walk m s ys) (none-more n); known = rw (append-nil earlier, after-none g) w }
@@ -260,26 +261,26 @@ module _ (book : Contents) (crowded : Bool) where
         (run-payments h k (earlier ++ p ∷ []) _ (one .end) (one .known) l (n + size p) ps (legal .1) ys)
 
 -- a batch
-pub adequate : (book : Contents) (repeats crowded : Bool) (marks : ℕ → Bool) (n : ℕ) (b : Batch) → LegalBatch b
-    → (s : State) → s ≡ run book marks (n + 1) (opening book repeats crowded n (b .header)) (paymentsOnto (b .payments) (b .trailer ∷ []))
-    → (s .finding ≡ first (markedFindings book repeats crowded marks n b)) × (s .payments ≡ length (b .payments)) × (s .total ≡ split (paidBy (b .payments)))
+pub adequate : (book : Contents) (today : Today) (repeats crowded : Bool) (marks : ℕ → Bool) (n : ℕ) (b : Batch) → LegalBatch b
+    → (s : State) → s ≡ run book marks (n + 1) (opening book today repeats crowded n (b .header)) (paymentsOnto (b .payments) (b .trailer ∷ []))
+    → (s .finding ≡ first (markedFindings book today repeats crowded marks n b)) × (s .payments ≡ length (b .payments)) × (s .total ≡ split (paidBy (b .payments)))
     × (s .accounts ≡ accountCount (b .payments))
 unfolding run stepOf codeBytes markedFindings
-adequate book repeats crowded marks n b legal s e =
+adequate book today repeats crowded marks n b legal s e =
     let h = b .header in
     let ps = b .payments in
     let r = b .trailer in
     let m = n + 1 + sizes ps in
-    let xs = begin book crowded repeats n h in
-    let ys = markedPayments book marks h (n + 1) [] ps in
-    let zs = ends book crowded h n ps m r in
+    let xs = begin book today crowded repeats n h in
+    let ys = markedPayments book today marks h (n + 1) [] ps in
+    let zs = ends book today crowded h n ps m r in
     let l = lettered (legal .letter) (legal .listed) in
     let paying : All (LegalPayment (letterByte (l .0))) ps = rw (← (l .1)) (legal .payments) in
-    let walked = run-payments book crowded marks h n [] (after sound xs) _ (at-header book crowded repeats n h) (l .0) (n + 1) ps paying (r ∷ []) in
+    let walked = run-payments book today crowded marks h n [] (after sound xs) _ (at-header book today crowded repeats n h) (l .0) (n + 1) ps paying (r ∷ []) in
     let t = walked .end in
     let q : s ≡ trailed t m r =
-    e ∙ walked .ran ∙ run-step book crowded marks m t r [] code.BatchTrailer (of-bytes code.BatchTrailer r (legal .trailer)) refl in
-    let known = at-trailer book crowded h n ps (after (after sound xs) ys) t (walked .known) m r in
+    e ∙ walked .ran ∙ run-step book today crowded marks m t r [] code.BatchTrailer (of-bytes code.BatchTrailer r (legal .trailer)) refl in
+    let known = at-trailer book today crowded h n ps (after (after sound xs) ys) t (walked .known) m r in
     let joined : after (after (after sound xs) ys) zs ≡ first (xs ++ (ys ++ zs)) =
     sym (after-append (after sound xs) ys zs) ∙ sym (after-append sound xs (ys ++ zs)) ∙ after-sound (xs ++ (ys ++ zs)) in
     (ap (λ (u : State). u .finding) q ∙ known .0 ∙ joined, ap (λ (u : State). u .payments) q ∙ known .1, ap (λ (u : State). u .total) q ∙ known .2, ap (λ (u : State). u .accounts) q ∙ known .3)

@@ -13,6 +13,7 @@ use Rattle.record.specs.Choice.{_and_, _or_, choose}
 use Rattle.page.specs.CodePage.{shown}
 use Rattle.record.specs.Value.{seen}
 use Rattle.page.proofs.Shown.{shown-take}
+use Rattle.calendar.specs.declared.Today.{Today}
 use Rattle.book.specs.Book.{Contents}
 use Rattle.nesting.specs.Division.{Record, Batch, paymentsOnto, batchLines}
 use Rattle.nesting.specs.Records.{lineOf, cut}
@@ -64,12 +65,12 @@ module _ (rest : List ℕ) (n : ℕ) (b : Batch) (h : BatchOf n rest b) where
   others-are : toTrailer (cut (n + 1) (length rest / 850 - 1) (drop 850 rest)) ≡ others
   others-are = ap (λ (rs : List Record). toTrailer (tail rs)) (sym lines-are) ∙ to-trailer b (h .legal) (h .more)
 
-  module _ (book : Contents) (repeats : Bool) (told : Told) (w : Walked) (e : w ≡ walkOf book repeats told n rest) where
-    walk-is : w ≡ walkedOver book told (n + 1) (record { state = opening book repeats (told .crowded) n (b .header); climbing = noClimb; records = 1 }) others
+  module _ (book : Contents) (today : Today) (repeats : Bool) (told : Told) (w : Walked) (e : w ≡ walkOf book today repeats told n rest) where
+    walk-is : w ≡ walkedOver book told (n + 1) (record { state = opening book today repeats (told .crowded) n (b .header); climbing = noClimb; records = 1 }) others
     unfolding walkOf
     walk-is = e ∙ rw (others-are, header-is)
 
-    state-is : w .state ≡ run book (isAt (told .repeat)) (n + 1) (opening book repeats (told .crowded) n (b .header)) others
+    state-is : w .state ≡ run book (isAt (told .repeat)) (n + 1) (opening book today repeats (told .crowded) n (b .header)) others
     unfolding walkedOver
     state-is = ap (λ (x : Walked). x .state) walk-is
 
@@ -84,7 +85,7 @@ module _ (rest : List ℕ) (n : ℕ) (b : Batch) (h : BatchOf n rest b) where
         ap (λ (x : Walked). x .records) walk-is ∙ q
 
     accounts-are : w .state .accounts ≡ accountCount (b .payments)
-    accounts-are = adequate book repeats (told .crowded) (isAt (told .repeat)) n b (h .legal) (w .state) state-is .3
+    accounts-are = adequate book today repeats (told .crowded) (isAt (told .repeat)) n b (h .legal) (w .state) state-is .3
 
     -- where the Payment IDs climb, none repeats
     climb-told : w .climbing .falls ≡ false → Nowhere ≡ firstRepeat Payments n [] (batchLines b)
@@ -120,12 +121,12 @@ module _ (rest : List ℕ) (n : ℕ) (b : Batch) (h : BatchOf n rest b) where
         counted false f = sym (few-accounts (b .payments) (omega (arith, accounts-are, ltb-false 1000 (w .state .accounts) f)))
 
     -- the row of a walk that was told so
-    told-row : Right n b told → (row : Row) → row ≡ rowAt (w .state) n (w .records) → row ≡ rowOf book repeats n b
+    told-row : Right n b told → (row : Row) → row ≡ rowAt (w .state) n (w .records) → row ≡ rowOf book today repeats n b
     unfolding rowAt rowOf
     told-row t row q =
-        let a = adequate book repeats (told .crowded) (isAt (told .repeat)) n b (h .legal) (w .state) state-is in
+        let a = adequate book today repeats (told .crowded) (isAt (told .repeat)) n b (h .legal) (w .state) state-is in
         let m = rw (t .repeat, t .kinds) at (a .0) in
-        let f = m ∙ first-repeat-enough book repeats n b (h .legal) in
+        let f = m ∙ first-repeat-enough book today repeats n b (h .legal) in
         let c = size-is in
         let p = a .1 in
         let s = a .2 in
@@ -182,23 +183,23 @@ none-told t e = go (t .repeat) (t .crowded) refl refl
     go Nowhere false f g = λ i. record { repeat = f i; crowded = g i }
 
 -- before each walk it is told so; after the last the row is the batch's
-pub record Judging (book : Contents) (repeats : Bool) (n : ℕ) (rest : List ℕ) (row : Row) (told : Told) (again : Bool) : Type 0 where
+pub record Judging (book : Contents) (today : Today) (repeats : Bool) (n : ℕ) (rest : List ℕ) (row : Row) (told : Told) (again : Bool) : Type 0 where
   pub known : again ≡ true → Known n rest told
-  pub done : again ≡ false → IsRow book repeats n rest row
+  pub done : again ≡ false → IsRow book today repeats n rest row
 
 -- the walks that may still come
 abbrev pub walksLeft : Told → Bool → ℕ
 walksLeft told again = choose again (choose (isTold told) 1 2) 0
 
-module _ (book : Contents) (repeats : Bool) {n : ℕ} {rest : List ℕ} where
-  pub judging-begun : (row : Row) → Judging book repeats n rest row (record { repeat = Nowhere; crowded = false }) true
+module _ (book : Contents) (today : Today) (repeats : Bool) {n : ℕ} {rest : List ℕ} where
+  pub judging-begun : (row : Row) → Judging book today repeats n rest row (record { repeat = Nowhere; crowded = false }) true
   unfolding isTold isSomewhere _or_
   judging-begun row = record { known = λ e. nothing refl refl; done = λ e. absurd (true≢false e) }
 
-  module _ (told : Told) {w : Walked} (j : Judgeable n rest) (e : w ≡ walkOf book repeats told n rest) where
+  module _ (told : Told) {w : Walked} (j : Judgeable n rest) (e : w ≡ walkOf book today repeats told n rest) where
     -- a walk ends within the bytes
     pub end-within : w .records * 850 ≤ length rest
-    end-within = let h = j .batch .1 in omega (arith, size-is rest n (j .batch .0) h book repeats told w e, records-are h)
+    end-within = let h = j .batch .1 in omega (arith, size-is rest n (j .batch .0) h book today repeats told w e, records-are h)
 
     pub rest-few : length rest ≤ 65535 * 850
     rest-few = omega (arith, j .few, j .numbered, j .whole)
@@ -206,7 +207,7 @@ module _ (book : Contents) (repeats : Bool) {n : ℕ} {rest : List ℕ} where
     pub first-few : n ≤ 65536
     first-few = omega (arith, j .few)
 
-    module _ {row : Row} {again : Bool} (g : Judging book repeats n rest row told again) (t : again ≡ true) (next : Seeking)
+    module _ {row : Row} {again : Bool} (g : Judging book today repeats n rest row told again) (t : again ≡ true) (next : Seeking)
         (s : next ≡ sought told (learnt (w .climbing .falls) (w .state .accounts) n (partOf rest (w .records)))) where
       abbrev found : Told
       found = learnt (w .climbing .falls) (w .state .accounts) n (partOf rest (w .records))
@@ -232,16 +233,16 @@ module _ (book : Contents) (repeats : Bool) {n : ℕ} {rest : List ℕ} where
           go (something o k) = rw (t, o, after-told o) (omega arith)
           go (nothing o z) = rw (t, o, after-none o) (few (isTold found))
 
-      pub judging-next : (after : Row) → after ≡ rowAt (w .state) n (w .records) → Judging book repeats n rest after (next .told) (next .again)
+      pub judging-next : (after : Row) → after ≡ rowAt (w .state) n (w .records) → Judging book today repeats n rest after (next .told) (next .again)
       judging-next after q = go (g .known t)
         where
-          row-is : ((b : Batch) → BatchOf n rest b → Right n b told) → IsRow book repeats n rest after
-          row-is k b h = told-row rest n b h book repeats told w e (k b h) after q
+          row-is : ((b : Batch) → BatchOf n rest b → Right n b told) → IsRow book today repeats n rest after
+          row-is k b h = told-row rest n b h book today repeats told w e (k b h) after q
 
           right : (b : Batch) → BatchOf n rest b → Right n b found
-          right b h = learnt-right rest n b h book repeats told w e
+          right b h = learnt-right rest n b h book today repeats told w e
 
-          go : Known n rest told → Judging book repeats n rest after (next .told) (next .again)
+          go : Known n rest told → Judging book today repeats n rest after (next .told) (next .again)
           go (something o k) = rw (after-told o) (record { known = λ i. absurd (true≢false (sym i)); done = λ i. row-is k })
           go (nothing o z) =
               rw (after-none o)

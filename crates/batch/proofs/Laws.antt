@@ -10,13 +10,16 @@ use Rattle.record.specs.declared.codes.Letter.{Letter}
 use Rattle.record.specs.declared.codes.Letter.the-variants.{N}
 use Rattle.record.specs.declared.codes.Code.{Code}
 use Rattle.record.specs.Choice.{_and_, choose}
-use Rattle.record.specs.Fields.{summaryTotalAmount, agencyLocationCode, checkSymbolNumber, amount, paymentTypeCode, stateCode, countryCode, originalCurrencyCode, accountAmount, procurementAmount}
+use Rattle.record.specs.Fields.{summaryTotalAmount, agencyLocationCode, checkSymbolNumber, checkAccountingMonthAndYear, amount, paymentTypeCode, stateCode, countryCode, originalCurrencyCode, accountAmount, procurementAmount}
 use Rattle.record.specs.Value.{held}
 use Rattle.record.specs.Tests.{blank}
 use Rattle.record.specs.Codes.{codeOf, letterIn}
 use Rattle.money.specs.declared.Amount.{Amount}
 use Rattle.money.specs.Money.{worth, split, cents}
 use Rattle.money.proofs.Amounts.{worth-split}
+use Rattle.calendar.specs.declared.Month.{Month}
+use Rattle.calendar.specs.declared.Today.{Today}
+use Rattle.calendar.specs.Clock.{monthIn}
 use Rattle.book.specs.declared.search.Listing.{Listing}
 use Rattle.book.specs.Book.{Contents, listing}
 use Rattle.nesting.specs.Division.{Record}
@@ -143,23 +146,23 @@ module _ (book : Contents) (n : ℕ) (r : Record) where
   abbrev zero-amount : Amount
   zero-amount = record { high = 0; low = 0 }
 
-  abbrev headed : Codes → Bool → Header → Context
-  headed k repeats h =
-      record { repeats = repeats; reporter = false; codes = k; symbol = h .symbol; serial = h .serial; payments = 0; total = zero-amount }
+  abbrev headed : Today → Codes → Bool → Header → Context
+  headed today k repeats h =
+      record { repeats = repeats; reporter = false; codes = k; symbol = h .symbol; serial = h .serial; month = h .month; payments = 0; total = zero-amount; today = today }
 
-  pub batch-opened : (repeats crowded : Bool) (h : Header) (f : Finding) (o : Open) → h ≡ head book crowded n r
+  pub batch-opened : (today : Today) (repeats crowded : Bool) (h : Header) (f : Finding) (o : Open) → h ≡ head book today crowded n r
       → (k : Codes) → k ≡ locationOnly (h .payer .listed)
-      → f ≡ after sound (findings (headed k repeats h) n r (rulesFor (h .letter) header)) → o ≡ opened n (headed k repeats h) zero-amount
-      → record { finding = f; header = h; payment = o; payments = 0; total = zero-amount; accounts = 0 } ≡ opening book repeats crowded n r
+      → f ≡ after sound (findings (headed today k repeats h) n r (rulesFor (h .letter) header)) → o ≡ opened n (headed today k repeats h) zero-amount
+      → record { finding = f; header = h; payment = o; payments = 0; total = zero-amount; accounts = 0 } ≡ opening book today repeats crowded n r
   unfolding opening head split
-  batch-opened repeats crowded h f o e k c d q = rw (d, q, c, e)
+  batch-opened today repeats crowded h f o e k c d q = rw (d, q, c, e)
 
   -- what the header says
-  pub head-read : (c : Code) (l : Letter) (payer : Listing) (symbol : List ℕ) (serial : ℕ) (a : Amount) (crowded : Bool) → c ≡ codeOf r → l ≡ letterIn c → payer ≡ location book (held r agencyLocationCode)
-      → symbol ≡ held r checkSymbolNumber → serial ≡ firstSerial r → a ≡ split (cents (held r summaryTotalAmount))
-      → record { number = n; letter = l; payer = payer; symbol = symbol; serial = serial; amount = a; crowded = crowded } ≡ head book crowded n r
+  pub head-read : (c : Code) (l : Letter) (payer : Listing) (symbol : List ℕ) (serial : ℕ) (month : Month) (a : Amount) (crowded : Bool) (today : Today) → c ≡ codeOf r → l ≡ letterIn c → payer ≡ location book (held r agencyLocationCode)
+      → symbol ≡ held r checkSymbolNumber → serial ≡ firstSerial r → month ≡ monthIn (held r checkAccountingMonthAndYear) → a ≡ split (cents (held r summaryTotalAmount))
+      → record { number = n; letter = l; payer = payer; symbol = symbol; serial = serial; month = month; amount = a; crowded = crowded; today = today } ≡ head book today crowded n r
   unfolding head
-  head-read c l payer symbol serial a crowded p q u v w x = rw (x, w, v, u, q, p)
+  head-read c l payer symbol serial month a crowded today p q u v w m x = rw (x, m, w, v, u, q, p)
 
   -- the state after a detail and a DT
   module _ (s : State) where

@@ -18,6 +18,7 @@ use Rattle.record.specs.Fields.{paymentId}
 use Rattle.record.specs.Value.{held}
 use Rattle.record.specs.Tests.{blank}
 use Rattle.record.specs.Codes.{letterByte, codeBytes, isDetail}
+use Rattle.calendar.specs.declared.Today.{Today}
 use Rattle.book.specs.Book.{Contents}
 use Rattle.nesting.specs.Division.{Record, All, Own, Coded, batchCode, Payment, Batch, LegalPayment, LegalBatch, paymentOnto, paymentsOnto, batchLines}
 use Rattle.nesting.proofs.Coding.{of-bytes, lettered}
@@ -160,9 +161,9 @@ unfolding after leading
 after-reason f [] e = absurd (true≢false e)
 after-reason f (x ∷ xs) e = let h = noted-reason f x e in rw (stays (noted f x) xs h) h
 
-module _ (book : Contents) (h : Record) (earlier : List Payment) (d : Record) where
+module _ (book : Contents) (today : Today) (h : Record) (earlier : List Payment) (d : Record) where
   -- so a detail that repeats begins with a reason, whatever its letter
-  detail-drawn : (l : Letter) (n : ℕ) (r : Record) → eqb (leading (findings (detailContext book h true earlier d) n r (rulesFor l detail))) 0 ≡ false
+  detail-drawn : (l : Letter) (n : ℕ) (r : Record) → eqb (leading (findings (detailContext book today h true earlier d) n r (rulesFor l detail))) 0 ≡ false
   unfolding leading detailContext context rows among findings reason detail letterByte choose _and_ _or_ unrepeated composed
   detail-drawn N n r = repeat-drawn (blank (held r paymentId))
   detail-drawn C n r = repeat-drawn (blank (held r paymentId))
@@ -172,18 +173,18 @@ module _ (book : Contents) (h : Record) (earlier : List Payment) (d : Record) wh
 
   -- and nothing that follows it is reported
   payment-closes : (l : Letter) (n : ℕ) (p : Payment) (f : Finding) (xs : List Finding)
-      → after f (payment book l (detailContext book h true earlier d) n p ++ xs)
-      ≡ after f (findings (detailContext book h true earlier d) n (p .detail) (rulesFor l detail))
+      → after f (payment book l (detailContext book today h true earlier d) n p ++ xs)
+      ≡ after f (findings (detailContext book today h true earlier d) n (p .detail) (rulesFor l detail))
   unfolding payment
   payment-closes l n p f xs =
-      let ds = findings (detailContext book h true earlier d) n (p .detail) (rulesFor l detail) in
+      let ds = findings (detailContext book today h true earlier d) n (p .detail) (rulesFor l detail) in
       ap (after f) (append-assoc ds _ xs) ∙ after-append f ds _ ∙ stays (after f ds) _ (after-reason f ds (detail-drawn l n (p .detail)))
 
-module _ (book : Contents) where
+module _ (book : Contents) (today : Today) where
   module _ (answer : Repeat) (h : Record) (l : Letter) (rs : List Record) where
     -- payments of which the same first is kept, marked or not
     abbrev Same : ℕ → List Payment → List Payment → Type 0
-    Same n earlier ps = Alike (markedPayments book (isAt answer) h n earlier ps) (payments book h n earlier ps)
+    Same n earlier ps = Alike (markedPayments book today (isAt answer) h n earlier ps) (payments book today h n earlier ps)
 
     module _ (n : ℕ) (earlier : List Payment) (p : Payment) (ps : List Payment) (g : LegalPayment (letterByte l) p)
         (s : Seeking answer n (map idOf earlier) (paymentsOnto (p ∷ ps) rs)) where
@@ -193,12 +194,12 @@ module _ (book : Contents) where
       unfolding markedPayments payments size
       same-next true m later f =
           rw (m, seeking-found answer n (map idOf earlier) (p .detail) _ s (legal-detail l p g) m)
-          (payment-closes book h earlier _ (letterOf h) n p f _ ∙ sym (payment-closes book h earlier _ (letterOf h) n p f _))
+          (payment-closes book today h earlier _ (letterOf h) n p f _ ∙ sym (payment-closes book today h earlier _ (letterOf h) n p f _))
       same-next false m later f =
           let k = seeking-payment answer n earlier p _ l g s m in
           let b : n < n + size p = omega arith in
           rw (m, seeking-later answer (n + size p) n _ _ b k)
-          (behind (payment book (letterOf h) (detailContext book h false earlier (p .detail)) n p) _ _ (later k) f)
+          (behind (payment book (letterOf h) (detailContext book today h false earlier (p .detail)) n p) _ _ (later k) f)
 
     -- so for all payments
     same : (ps : List Payment) (n : ℕ) (earlier : List Payment) → All (LegalPayment (letterByte l)) ps → Seeking answer n (map idOf earlier) (paymentsOnto ps rs) → Same n earlier ps
@@ -209,7 +210,7 @@ module _ (book : Contents) where
 
   -- the first finding is the same where only the first detail that repeats is marked
   pub first-repeat-enough : (repeats : Bool) (n : ℕ) (b : Batch) → LegalBatch b
-      → first (markedFindings book repeats (crowded (accountKinds (b .payments))) (isAt (firstRepeat Payments n [] (batchLines b))) n b) ≡ first (batchFindings book repeats n b)
+      → first (markedFindings book today repeats (crowded (accountKinds (b .payments))) (isAt (firstRepeat Payments n [] (batchLines b))) n b) ≡ first (batchFindings book today repeats n b)
   unfolding markedFindings batchFindings tooMany numbers codeBytes isDetail
   first-repeat-enough repeats n b g =
       let l = lettered (g .letter) (g .listed) in
@@ -217,5 +218,5 @@ module _ (book : Contents) where
       let gs : All (LegalPayment (letterByte (l .0))) (b .payments) = rw (← l .1) (g .payments) in
       let start : Seeking answer n [] (batchLines b) = record { seen = []; known = refl; left = refl } in
       let s = seeking-other answer n [] (b .header) _ start (header-none b g) in
-      let heads = findings (context (b .header) repeats false (headerCodes book (b .header)) []) n (b .header) (rulesFor (letterOf (b .header)) header) in
+      let heads = findings (context today (b .header) repeats false (headerCodes book (b .header)) []) n (b .header) (rulesFor (letterOf (b .header)) header) in
       sym (after-sound _) ∙ behind heads _ _ (before _ _ _ (same answer (b .header) (l .0) _ (b .payments) (n + 1) [] gs s)) sound ∙ after-sound _

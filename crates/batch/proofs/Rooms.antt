@@ -18,6 +18,7 @@ use Rattle.record.proofs.Numbers.{numeral-below}
 use Rattle.money.specs.declared.Amount.{Amount}
 use Rattle.money.specs.Money.{worth, split, cents, Whole, Fit}
 use Rattle.money.proofs.Amounts.{worth-split, split-whole, cents-below}
+use Rattle.calendar.specs.declared.Today.{Today}
 use Rattle.book.specs.Book.{Contents}
 use Rattle.rules.specs.declared.Codes.{Codes}
 use Rattle.rules.specs.declared.Context.{Context}
@@ -71,10 +72,10 @@ serial-below ascii rec e = go (digits (held (shown ascii rec) checkFirstSerialNu
     go false d = rw d (omega arith)
 
 -- what the header's rules know
-pub kept-header : (book : Contents) (n : ℕ) (ascii : Bool) (rec : List ℕ) (h : Header) (repeats crowded : Bool) (codes : Codes) (k : ℕ) → k < 65536 → length rec ≡ 850 → h ≡ head book crowded n (shown ascii rec)
-    → Kept (record { repeats = repeats; reporter = false; codes = codes; symbol = h .symbol; serial = h .serial; payments = k; total = record { high = 0; low = 0 } })
+pub kept-header : (book : Contents) (today : Today) (n : ℕ) (ascii : Bool) (rec : List ℕ) (h : Header) (repeats crowded : Bool) (codes : Codes) (k : ℕ) → k < 65536 → length rec ≡ 850 → h ≡ head book today crowded n (shown ascii rec)
+    → Kept (record { repeats = repeats; reporter = false; codes = codes; symbol = h .symbol; serial = h .serial; month = h .month; payments = k; total = record { high = 0; low = 0 }; today = today })
 unfolding head Whole
-kept-header book n ascii rec h repeats crowded codes k few l e =
+kept-header book today n ascii rec h repeats crowded codes k few l e =
     record { serial = rw e (serial-below ascii rec l); payments = few; total = omega arith }
 
 module _ (n : ℕ) (s : State) (r : Room n s) (h : n ≤ 65535) where

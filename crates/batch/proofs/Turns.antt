@@ -1,6 +1,6 @@
 -- The loop over a batch's records: what is left of them decides, and there is room for each.
 -- Assumes nothing.
-use mathlib.Core.Path.{_≡_, refl, sym, ap, _∙_}
+use mathlib.Core.Path.{_≡_, refl, sym, ap, _∙_, subst}
 use mathlib.Core.Bool.{Bool, true, false}
 use mathlib.Core.List.{List, [], _∷_}
 use Prim.Native.Nat.{ℕ, suc, _+_, _-_, _*_, _/_, _<_, _≤_}
@@ -19,6 +19,7 @@ use Rattle.record.proofs.Held.{held-length}
 use Rattle.money.specs.Money as money
 use Rattle.money.specs.Money.{worth, split, cents}
 use Rattle.money.proofs.Amounts.{worth-split, split-whole, cents-below}
+use Rattle.calendar.specs.declared.Today.{Today}
 use Rattle.book.specs.Book.{Contents}
 use Rattle.nesting.specs.Division.{Record}
 use Rattle.nesting.specs.Records.{cut}
@@ -101,9 +102,9 @@ module _ (ascii : Bool) (rec : List ℕ) (l : length rec ≡ 850) where
   below f h w = cents-below (held (shown ascii rec) f) (wide f h w)
 
   -- after a header there is room
-  pub room-opening : (book : Contents) (repeats crowded : Bool) (n m : ℕ) → Room (n + 1) (opening book repeats crowded m (shown ascii rec))
+  pub room-opening : (book : Contents) (today : Today) (repeats crowded : Bool) (n m : ℕ) → Room (n + 1) (opening book today repeats crowded m (shown ascii rec))
   unfolding opening opened head
-  room-opening book repeats crowded n m =
+  room-opening book today repeats crowded n m =
       record {
         payment =
             record {
@@ -204,17 +205,17 @@ pub first-sent : (ascii : Bool) (sent : List ℕ) (n : ℕ) → Judgeable n (sho
 first-sent ascii sent n j = omega (arith, first-record j, shown-length ascii sent)
 
 -- so many records have been walked, up to `at`, and no BT behind the header: the walk over the others is the walk over all
-pub record Walking (book : Contents) (ascii : Bool) (sent : List ℕ) (first : ℕ) (repeats : Bool) (told : Told) (w : Walked) (at : ℕ) : Type 0 where
+pub record Walking (book : Contents) (today : Today) (ascii : Bool) (sent : List ℕ) (first : ℕ) (repeats : Bool) (told : Told) (w : Walked) (at : ℕ) : Type 0 where
   pub judgeable : Judgeable first (shown ascii sent)
   pub place : at ≡ w .records * 850
   pub some : 1 ≤ w .records
   pub within : at ≤ length (shown ascii sent)
   pub room : Roomy (first + w .records) (w .state)
-  pub left : walkOf book repeats told first (shown ascii sent) ≡ walkedOver book told (first + w .records) w (toTrailer (cut (first + w .records) (length (shown ascii sent) / 850 - w .records) (drop at (shown ascii sent))))
+  pub left : walkOf book today repeats told first (shown ascii sent) ≡ walkedOver book told (first + w .records) w (toTrailer (cut (first + w .records) (length (shown ascii sent) / 850 - w .records) (drop at (shown ascii sent))))
 
-module _ {book : Contents} {ascii : Bool} {sent : List ℕ} {first : ℕ} {repeats : Bool} {told : Told} where
-  begun : {s : State} → Judgeable first (shown ascii sent) → s ≡ opening book repeats (told .crowded) first (shown ascii (take 850 sent))
-      → Walking book ascii sent first repeats told (record { state = s; climbing = noClimb; records = 1 }) 850
+module _ {book : Contents} {today : Today} {ascii : Bool} {sent : List ℕ} {first : ℕ} {repeats : Bool} {told : Told} where
+  begun : {s : State} → Judgeable first (shown ascii sent) → s ≡ opening book today repeats (told .crowded) first (shown ascii (take 850 sent))
+      → Walking book today ascii sent first repeats told (record { state = s; climbing = noClimb; records = 1 }) 850
   unfolding walkOf Roomy
   begun j e =
       let h = first-record j in
@@ -225,11 +226,11 @@ module _ {book : Contents} {ascii : Bool} {sent : List ℕ} {first : ℕ} {repea
         place = refl;
         some = omega arith;
         within = h;
-        room = room-opening ascii (take 850 sent) l book repeats (told .crowded) first first;
+        room = room-opening ascii (take 850 sent) l book today repeats (told .crowded) first first;
         left = rw (← from-seen ascii sent first 0);
       })
 
-  module _ {w : Walked} {at : ℕ} (i : Walking book ascii sent first repeats told w at) where
+  module _ {w : Walked} {at : ℕ} (i : Walking book today ascii sent first repeats told w at) where
     -- the record that begins at `at`
     abbrev here : Record
     here = recordFrom ascii sent at
@@ -266,7 +267,7 @@ module _ {book : Contents} {ascii : Bool} {sent : List ℕ} {first : ℕ} {repea
 
       -- it is a BT, or none, by its code
       module _ {t : Walked} {k : Code} {x marked : Bool} (g : marked ≡ isAt (told .repeat) (first + w .records)) (e : t ≡ taken book (first + w .records) w here marked) (o : k ≡ codeOf here) (z : x ≡ isTrailer k) where
-        pub turned : x ≡ false → Walking book ascii sent first repeats told t (at + 850)
+        pub turned : x ≡ false → Walking book today ascii sent first repeats told t (at + 850)
         unfolding taken toTrailer choose Roomy
         turned f =
             let m : first + (w .records + 1) ≡ first + w .records + 1 = omega arith in
@@ -281,13 +282,13 @@ module _ {book : Contents} {ascii : Bool} {sent : List ℕ} {first : ℕ} {repea
               left = rw m (i .left ∙ rw (left-next, p) (over-next book told (first + w .records) w here _));
             })
 
-        pub ended : x ≡ true → t ≡ walkOf book repeats told first (shown ascii sent)
+        pub ended : x ≡ true → t ≡ walkOf book today repeats told first (shown ascii sent)
         unfolding toTrailer choose
         ended f =
             let p : isTrailer (codeOf here) ≡ true = ap isTrailer (sym o) ∙ sym z ∙ f in
             sym (i .left ∙ rw (left-next, p, e, g) (over-next book told (first + w .records) w here [] ∙ over-none book told _ _))
 
-    pub finished : length (shown ascii sent) ≤ at → w ≡ walkOf book repeats told first (shown ascii sent)
+    pub finished : length (shown ascii sent) ≤ at → w ≡ walkOf book today repeats told first (shown ascii sent)
     unfolding toTrailer cut
     finished h =
         let e : length (shown ascii sent) / 850 - w .records ≡ 0 = omega (arith, i .place) in
@@ -303,22 +304,22 @@ unfolding choose
 goes-on k end stop x e f = rw (← e, f)
 
 -- the walk goes on while a record is left, or has stopped behind the BT
-pub record Passing (book : Contents) (ascii : Bool) (sent : List ℕ) (first : ℕ) (repeats : Bool) (told : Told) (w : Walked) (at stop : ℕ) : Type 0 where
-  pub going : at < stop → Walking book ascii sent first repeats told w at
+pub record Passing (book : Contents) (today : Today) (ascii : Bool) (sent : List ℕ) (first : ℕ) (repeats : Bool) (told : Told) (w : Walked) (at stop : ℕ) : Type 0 where
+  pub going : at < stop → Walking book today ascii sent first repeats told w at
   pub whole : at < stop → stop ≡ length (shown ascii sent)
-  pub done : stop ≤ at → w ≡ walkOf book repeats told first (shown ascii sent)
+  pub done : stop ≤ at → w ≡ walkOf book today repeats told first (shown ascii sent)
 
-module _ {book : Contents} {ascii : Bool} {sent : List ℕ} {first : ℕ} {repeats : Bool} {told : Told} where
-  pub passing-begun : {s : State} → Judgeable first (shown ascii sent) → s ≡ opening book repeats (told .crowded) first (shown ascii (take 850 sent))
-      → Passing book ascii sent first repeats told (record { state = s; climbing = noClimb; records = 1 }) 850 (length sent)
+module _ {book : Contents} {today : Today} {ascii : Bool} {sent : List ℕ} {first : ℕ} {repeats : Bool} {told : Told} where
+  passing-begun : {s : State} → Judgeable first (shown ascii sent) → s ≡ opening book today repeats (told .crowded) first (shown ascii (take 850 sent))
+      → Passing book today ascii sent first repeats told (record { state = s; climbing = noClimb; records = 1 }) 850 (length sent)
   passing-begun j e =
       let n = shown-length ascii sent in
-      let w : Walking book ascii sent first repeats told _ 850 = begun j e in
+      let w : Walking book today ascii sent first repeats told _ 850 = begun j e in
       record { going = λ h. w; whole = λ h. sym n; done = λ h. finished w (omega (arith, n)) }
 
-  module _ {w : Walked} {at stop : ℕ} (p : Passing book ascii sent first repeats told w at stop) (h : at < stop) where
+  module _ {w : Walked} {at stop : ℕ} (p : Passing book today ascii sent first repeats told w at stop) (h : at < stop) where
     -- the record at the place
-    pub walking : Walking book ascii sent first repeats told w at
+    pub walking : Walking book today ascii sent first repeats told w at
     walking = p .going h
 
     pub left : at < length sent
@@ -336,11 +337,11 @@ module _ {book : Contents} {ascii : Bool} {sent : List ℕ} {first : ℕ} {repea
       pub passing-next : {s : State} {c : Climbing} {marked : Bool} → marked ≡ isAt (told .repeat) (first + w .records) → k ≡ codeOf (recordFrom ascii sent at)
           → s ≡ stepOf book (codeOf (recordFrom ascii sent at)) (w .state) (first + w .records) (recordFrom ascii sent at) marked
           → c ≡ climbed (recordFrom ascii sent at) (w .climbing)
-          → Passing book ascii sent first repeats told (record { state = s; climbing = c; records = w .records + 1 }) (at + 850) stop'
+          → Passing book today ascii sent first repeats told (record { state = s; climbing = c; records = w .records + 1 }) (at + 850) stop'
       unfolding choose
       passing-next {s} {c} {marked} g o e q = go (isTrailer k) refl
         where
-          go : (x : Bool) → isTrailer k ≡ x → Passing book ascii sent first repeats told (record { state = s; climbing = c; records = w .records + 1 }) (at + 850) stop'
+          go : (x : Bool) → isTrailer k ≡ x → Passing book today ascii sent first repeats told (record { state = s; climbing = c; records = w .records + 1 }) (at + 850) stop'
           go true f =
               let y : stop' ≡ at + 850 = rw f at z in
               record {
@@ -352,3 +353,19 @@ module _ {book : Contents} {ascii : Bool} {sent : List ℕ} {first : ℕ} {repea
               let y : stop' ≡ stop = rw f at z in
               let t = turned walking left g (took book _ _ w s c marked e q) o (sym f) refl in
               record { going = λ l. t; whole = λ l. y ∙ p .whole h; done = λ l. finished t (omega (arith, p .whole h)) }
+
+-- today goes along in the state that the header leaves
+module _ (book : Contents) (today : Today) (ascii : Bool) (sent : List ℕ) (first : ℕ) (repeats : Bool) (told : Told) (s : State)
+    (e : s ≡ opening book today repeats (told .crowded) first (shown ascii (take 850 sent))) where
+  same-today : s .header .today ≡ today
+  unfolding opening head
+  same-today = ap (λ (t : State). t .header .today) e
+
+  pub passing-opened : Judgeable first (shown ascii sent)
+      → Passing book (s .header .today) ascii sent first repeats told (record { state = s; climbing = noClimb; records = 1 }) 850 (length sent)
+  passing-opened j =
+      subst (λ (t : Today). Passing book t ascii sent first repeats told (record { state = s; climbing = noClimb; records = 1 }) 850 (length sent)) (sym same-today)
+      (passing-begun j e)
+
+  pub passed : (w : Walked) → w ≡ walkOf book (s .header .today) repeats told first (shown ascii sent) → w ≡ walkOf book today repeats told first (shown ascii sent)
+  passed w q = q ∙ ap (λ (t : Today). walkOf book t repeats told first (shown ascii sent)) same-today

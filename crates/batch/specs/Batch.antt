@@ -7,12 +7,14 @@ use lib.Dec.{eqb}
 use lib.ListN.{length}
 use Rattle.record.specs.declared.codes.Letter.{Letter}
 use Rattle.record.specs.Choice.{_and_, choose}
-use Rattle.record.specs.Fields.{summaryTotalAmount, agencyLocationCode, checkSymbolNumber, checkFirstSerialNumber, paymentId, paymentTypeCode, paymentLocationCode, stateCode, countryCode, originalCurrencyCode, businessEventTypeCode, accountAmount, procurementAmount}
+use Rattle.record.specs.Fields.{summaryTotalAmount, agencyLocationCode, checkSymbolNumber, checkFirstSerialNumber, checkAccountingMonthAndYear, paymentId, paymentTypeCode, paymentLocationCode, stateCode, countryCode, originalCurrencyCode, businessEventTypeCode, accountAmount, procurementAmount}
 use Rattle.record.specs.Value.{held}
 use Rattle.record.specs.Tests.{digits}
 use Rattle.record.specs.Numeral.{numeral}
 use Rattle.record.specs.Codes.{codeOf, letterIn}
 use Rattle.money.specs.Money.{split, cents, total}
+use Rattle.calendar.specs.declared.Today.{Today}
+use Rattle.calendar.specs.Clock.{monthIn}
 use Rattle.book.specs.declared.search.Listing.{Listing}
 use Rattle.book.specs.Book.{Contents, listing}
 use Rattle.nesting.specs.Division.{Record, Payment, Batch, LegalBatch, batchLines}
@@ -51,17 +53,19 @@ unfoldable pub firstSerial : Record → ℕ
 firstSerial h = choose (digits (held h checkFirstSerialNumber)) (numeral (held h checkFirstSerialNumber)) 0
 
 -- what the rules of a record know beside it: whether its number repeats an earlier one, whether the payer is a CARS Reporter, which of its
--- codes are in the book, the header's fields 18 and 19, the earlier payments
-unfoldable pub context : Record → Bool → Bool → Codes → List Payment → Context
-context h repeats reporter codes earlier =
+-- codes are in the book, the header's fields 18, 19 and 20, the earlier payments, and today (02 W4)
+unfoldable pub context : Today → Record → Bool → Bool → Codes → List Payment → Context
+context today h repeats reporter codes earlier =
     record {
       repeats = repeats;
       reporter = reporter;
       codes = codes;
       symbol = held h checkSymbolNumber;
       serial = firstSerial h;
+      month = monthIn (held h checkAccountingMonthAndYear);
       payments = length earlier;
       total = split (paidBy earlier);
+      today = today;
     }
 
 -- the same, of a record with other codes
@@ -73,8 +77,10 @@ withCodes c codes =
       codes = codes;
       symbol = c .symbol;
       serial = c .serial;
+      month = c .month;
       payments = c .payments;
       total = c .total;
+      today = c .today;
     }
 
 -- the codes of a record that has none but a location, none but a BETC, none at all
@@ -168,37 +174,38 @@ module _ (book : Contents) where
       ++ (eachProcurement l c (n + 1 + length (p .parties) + length (p .accounts)) (p .procurements)
       ++ sums (c .reporter) n p)))
 
-  -- what the rules of a payment's records know
-  unfoldable pub detailContext : Record → Bool → List Payment → Record → Context
-  detailContext h repeats earlier d = context h repeats (payer h d .flagged) (detailCodes (payer h d .listed) d) earlier
+  module _ (today : Today) where
+    -- what the rules of a payment's records know
+    unfoldable pub detailContext : Record → Bool → List Payment → Record → Context
+    detailContext h repeats earlier d = context today h repeats (payer h d .flagged) (detailCodes (payer h d .listed) d) earlier
 
-  -- each payment, after those earlier in the batch
-  unfoldable pub payments : Record → ℕ → List Payment → List Payment → List Finding
-  payments h n earlier [] = []
-  payments h n earlier (p ∷ ps) =
-      payment (letterOf h) (detailContext h (member (idOf p) (map idOf earlier)) earlier (p .detail)) n p
-      ++ payments h (n + size p) (earlier ++ p ∷ []) ps
+    -- each payment, after those earlier in the batch
+    unfoldable pub payments : Record → ℕ → List Payment → List Payment → List Finding
+    payments h n earlier [] = []
+    payments h n earlier (p ∷ ps) =
+        payment (letterOf h) (detailContext h (member (idOf p) (map idOf earlier)) earlier (p .detail)) n p
+        ++ payments h (n + size p) (earlier ++ p ∷ []) ps
 
-  -- the findings of a batch in document 01's order; its header is record n, and repeats an earlier batch's schedule number or not
-  unfoldable pub batchFindings : Bool → ℕ → Batch → List Finding
-  batchFindings repeats n b =
-      findings (context (b .header) repeats false (headerCodes (b .header)) []) n (b .header) (rulesFor (letterOf (b .header)) header)
-      ++ (payments (b .header) (n + 1) [] (b .payments)
-      ++ (tooMany n (b .payments)
-      ∷ (findings (context (b .header) false false noCodes (b .payments)) (n + 1 + sizes (b .payments)) (b .trailer) (rulesFor (letterOf (b .header)) trailer)
-      ++ summary n (b .header) (b .payments)
-      ∷ [])))
+    -- the findings of a batch in document 01's order; its header is record n, and repeats an earlier batch's schedule number or not
+    unfoldable pub batchFindings : Bool → ℕ → Batch → List Finding
+    batchFindings repeats n b =
+        findings (context today (b .header) repeats false (headerCodes (b .header)) []) n (b .header) (rulesFor (letterOf (b .header)) header)
+        ++ (payments (b .header) (n + 1) [] (b .payments)
+        ++ (tooMany n (b .payments)
+        ∷ (findings (context today (b .header) false false noCodes (b .payments)) (n + 1 + sizes (b .payments)) (b .trailer) (rulesFor (letterOf (b .header)) trailer)
+        ++ summary n (b .header) (b .payments)
+        ∷ [])))
 
-  -- the batch's row (01 Report): the total and the counts are over its payments, whatever its faults
-  unfoldable pub rowOf : Bool → ℕ → Batch → Row
-  rowOf repeats n b =
-      record {
-        first_record = n;
-        records = length (batchLines b);
-        payments = length (b .payments);
-        total = split (paidBy (b .payments));
-        finding = first (batchFindings repeats n b);
-      }
+    -- the batch's row (01 Report): the total and the counts are over its payments, whatever its faults
+    unfoldable pub rowOf : Bool → ℕ → Batch → Row
+    rowOf repeats n b =
+        record {
+          first_record = n;
+          records = length (batchLines b);
+          payments = length (b .payments);
+          total = split (paidBy (b .payments));
+          finding = first (batchFindings repeats n b);
+        }
 
 -- the rest of a file begins with the records of the batch; the first has this number, and more may follow
 pub record BatchOf (n : ℕ) (rest : List ℕ) (b : Batch) : Type 0 where
@@ -214,5 +221,5 @@ pub record Judgeable (n : ℕ) (rest : List ℕ) : Type 0 where
   pub batch : (b : Batch) × BatchOf n rest b
 
 -- the row is that of the batch with which the rest begins
-abbrev pub IsRow : Contents → Bool → ℕ → List ℕ → Row → Type 0
-IsRow book repeats n rest row = (b : Batch) → BatchOf n rest b → row ≡ rowOf book repeats n b
+abbrev pub IsRow : Contents → Today → Bool → ℕ → List ℕ → Row → Type 0
+IsRow book today repeats n rest row = (b : Batch) → BatchOf n rest b → row ≡ rowOf book today repeats n b

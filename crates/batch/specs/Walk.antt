@@ -8,13 +8,15 @@ use Rattle.record.specs.declared.codes.Letter.the-variants.{N}
 use Rattle.record.specs.declared.codes.Code.{Code}
 use Rattle.record.specs.declared.codes.Code.the-variants as code
 use Rattle.record.specs.Choice.{_and_, _or_, choose}
-use Rattle.record.specs.Fields.{summaryTotalAmount, agencyLocationCode, checkSymbolNumber, amount, paymentLocationCode, accountAmount, procurementAmount}
+use Rattle.record.specs.Fields.{summaryTotalAmount, agencyLocationCode, checkSymbolNumber, checkAccountingMonthAndYear, amount, paymentLocationCode, accountAmount, procurementAmount}
 use Rattle.record.specs.Value.{seen, held}
 use Rattle.record.specs.Tests.{blank}
 use Rattle.record.specs.Codes.{codeOf, isTrailer, letterIn}
 use Rattle.money.specs.declared.Amount.{Amount}
 use Rattle.money.specs.Money as money
 use Rattle.money.specs.Money.{worth, split, cents, Whole, comesTo}
+use Rattle.calendar.specs.declared.Today.{Today}
+use Rattle.calendar.specs.Clock.{monthIn}
 use Rattle.book.specs.declared.search.Listing.{Listing}
 use Rattle.book.specs.Book.{Contents}
 use Rattle.nesting.specs.Division.{Record}
@@ -119,8 +121,10 @@ contextOf s repeats reporter codes =
       codes = codes;
       symbol = s .header .symbol;
       serial = s .header .serial;
+      month = s .header .month;
       payments = s .payments;
       total = s .total;
+      today = s .header .today;
     }
 
 -- the state with another first finding; with another payment and another count of DT too
@@ -168,37 +172,41 @@ abbrev pub noClimb : Climbing
 noClimb = record { falls = false; greatest = replicate 20 0 }
 
 module _ (book : Contents) where
-  -- what the header says, and whether the batch is known to have too many kinds
-  unfoldable pub head : Bool → ℕ → Record → Header
-  head crowded n h =
+  -- what the header says, whether the batch is known to have too many kinds, and today
+  unfoldable pub head : Today → Bool → ℕ → Record → Header
+  head today crowded n h =
       record {
         number = n;
         letter = letterIn (codeOf h);
         payer = location book (held h agencyLocationCode);
         symbol = held h checkSymbolNumber;
         serial = firstSerial h;
+        month = monthIn (held h checkAccountingMonthAndYear);
         amount = split (cents (held h summaryTotalAmount));
         crowded = crowded;
+        today = today;
       }
 
   -- what the header's rules know
-  abbrev pub headContext : Bool → Record → Context
-  headContext repeats h =
+  abbrev pub headContext : Today → Bool → Record → Context
+  headContext today repeats h =
       record {
         repeats = repeats;
         reporter = false;
         codes = locationOnly (location book (held h agencyLocationCode) .listed);
         symbol = held h checkSymbolNumber;
         serial = firstSerial h;
+        month = monthIn (held h checkAccountingMonthAndYear);
         payments = 0;
         total = split 0;
+        today = today;
       }
 
   -- before the first payment: an empty one of no reporter, with which nothing is wrong
-  unfoldable pub opening : Bool → Bool → ℕ → Record → State
-  opening repeats crowded n h =
-      state (after sound (findings (headContext repeats h) n h (rulesFor (letterIn (codeOf h)) header))) (head crowded n h)
-      (opened n (headContext repeats h) (split 0)) 0 (split 0) 0
+  unfoldable pub opening : Today → Bool → Bool → ℕ → Record → State
+  opening today repeats crowded n h =
+      state (after sound (findings (headContext today repeats h) n h (rulesFor (letterIn (codeOf h)) header))) (head today crowded n h)
+      (opened n (headContext today repeats h) (split 0)) 0 (split 0) 0
 
   -- the payer's location
   unfoldable pub payerIn : Header → Record → Listing
@@ -257,9 +265,9 @@ module _ (book : Contents) where
       }
 
   -- the walk over what begins with a batch: the header, and the records behind it up to the first BT
-  unfoldable pub walkOf : Bool → Told → ℕ → List ℕ → Walked
-  walkOf repeats told n rest =
-      walkedOver told (n + 1) (record { state = opening repeats (told .crowded) n (seen (lineOf n) (take 850 rest)); climbing = noClimb; records = 1 })
+  unfoldable pub walkOf : Today → Bool → Told → ℕ → List ℕ → Walked
+  walkOf today repeats told n rest =
+      walkedOver told (n + 1) (record { state = opening today repeats (told .crowded) n (seen (lineOf n) (take 850 rest)); climbing = noClimb; records = 1 })
       (toTrailer (cut (n + 1) (length rest / 850 - 1) (drop 850 rest)))
 
 -- the repeat is somewhere

@@ -5,6 +5,7 @@ mod payment;
 mod walk;
 
 use book::Book;
+use calendar::Today;
 use money::Amount;
 use pass::Told;
 use pass::Walked;
@@ -122,11 +123,18 @@ fn seek(
     tell(Repeat::Nowhere, crowded)
 }
 
-// The row of the batch that begins the rest of the file; its header has the line `first`, and its schedule number repeats an earlier
-// batch's or not. One walk tells all where no Payment ID repeats and the kinds are not too many.
-pub fn judge_batch(book: &[u8], shelves: Book, rest: &[u8], first: Line, repeats: bool) -> Row
+// The row of the batch that begins the rest of the file, today being lent or not; its header has the line `first`, and its schedule number
+// repeats an earlier batch's or not. One walk tells all where no Payment ID repeats and the kinds are not too many.
+pub fn judge_batch(
+    book: &[u8],
+    shelves: Book,
+    today: Today,
+    rest: &[u8],
+    first: Line,
+    repeats: bool,
+) -> Row
     requires { ⌜ Usable (now book) shelves × Judgeable (first .number) (seen first (now rest)) ⌝ }
-    ensures { λ r. ⌜ IsRow (listedAt (now (book .entry)) shelves) repeats (first .number) (seen first (now (rest .entry))) r ⌝ }
+    ensures { λ r. ⌜ IsRow (listedAt (now (book .entry)) shelves) today repeats (first .number) (seen first (now (rest .entry))) r ⌝ }
 {
     let number = first.number;
     let total = Amount { high: 0, low: 0 };
@@ -148,7 +156,7 @@ pub fn judge_batch(book: &[u8], shelves: Book, rest: &[u8], first: Line, repeats
     };
     let mut again = true;
     while again {
-        let walked = pass::walk_batch(book, shelves, rest, first, repeats, told);
+        let walked = pass::walk_batch(book, shelves, today, rest, first, repeats, told);
         let climbing = walked.climbing;
         let state = walked.state;
         let next = seek(

@@ -2,6 +2,7 @@
 use crate::walk;
 use crate::walk::State;
 use book::Book;
+use calendar::Today;
 use record::Line;
 use record::codes::Code;
 use record::codes::code_bytes;
@@ -56,15 +57,24 @@ fn stop_after(code: Code, end: usize, stop: usize) -> usize
 pub(crate) fn walk_batch(
     book: &[u8],
     shelves: Book,
+    today: Today,
     rest: &[u8],
     first: Line,
     repeats: bool,
     told: Told,
 ) -> Walked
     requires { ⌜ Usable (now book) shelves × Judgeable (first .number) (seen first (now rest)) ⌝ }
-    ensures { λ r. ⌜ r ≡ walkOf (listedAt (now (book .entry)) shelves) repeats told (first .number) (seen first (now (rest .entry))) ⌝ }
+    ensures { λ r. ⌜ r ≡ walkOf (listedAt (now (book .entry)) shelves) today repeats told (first .number) (seen first (now (rest .entry))) ⌝ }
 {
-    let mut state = walk::open_batch(book, shelves, &rest[0..850], first, repeats, told.crowded);
+    let mut state = walk::open_batch(
+        book,
+        shelves,
+        today,
+        &rest[0..850],
+        first,
+        repeats,
+        told.crowded,
+    );
     let mut climbing = Climbing {
         falls: false,
         greatest: [0u8; 20],

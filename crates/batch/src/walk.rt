@@ -4,6 +4,8 @@ use crate::payment;
 use crate::payment::Open;
 use book::Book;
 use book::search::Listing;
+use calendar::Month;
+use calendar::Today;
 use money::Amount;
 use reasons::Finding;
 use record::Line;
@@ -38,16 +40,18 @@ ghost use Rattle.rules.specs.Rules.{Kept, among, check, procurement, loneProcur
 ghost use Rattle.batch.specs.Batch.{firstSerial, withCodes};
 ghost use Rattle.batch.specs.Walk.{Room, loneBlank, head, opening, contextOf, knowing, payerIn, payingContext, nextProcurement, last, detailed, partied, accounted, procured, trailed, stepOf};
 
-// What the header says: its record, the batch's letter, what the book says of the location in field 14, fields 18 and 19, and the total of
-// field 9. And whether the batch is known to have too many kinds.
+// What the header says: its record, the batch's letter, what the book says of the location in field 14, fields 18, 19 and 20, and the total of
+// field 9. And whether the batch is known to have too many kinds, and today, where it is lent.
 pub(crate) struct Header {
     pub(crate) number: usize,
     pub(crate) letter: Letter,
     pub(crate) payer: Listing,
     pub(crate) symbol: [u8; 4],
     pub(crate) serial: u64,
+    pub(crate) month: Month,
     pub(crate) amount: Amount,
     pub(crate) crowded: bool,
+    pub(crate) today: Today,
 }
 
 // What is known after a record: the first finding, what the header says, the open payment, the batch's payments, total and DT so far.
@@ -87,9 +91,16 @@ fn first_serial(rec: &[u8], line: Line) -> u64
     0
 }
 
-fn read_header(book: &[u8], shelves: Book, rec: &[u8], line: Line, crowded: bool) -> Header
+fn read_header(
+    book: &[u8],
+    shelves: Book,
+    today: Today,
+    rec: &[u8],
+    line: Line,
+    crowded: bool,
+) -> Header
     requires { ⌜ Usable (now book) shelves × (length (now rec) ≡ 850) ⌝ }
-    ensures { λ r. ⌜ r ≡ head (listedAt (now (book .entry)) shelves) crowded (line .number) (seen line (now (rec .entry))) ⌝ }
+    ensures { λ r. ⌜ r ≡ head (listedAt (now (book .entry)) shelves) today crowded (line .number) (seen line (now (rec .entry))) ⌝ }
 {
     let number = line.number;
     let code = code_of(code_bytes(rec, line));
@@ -97,6 +108,7 @@ fn read_header(book: &[u8], shelves: Book, rec: &[u8], line: Line, crowded: bool
     let payer = lookups::location(book, shelves, rec, line, AGENCY_LOCATION_CODE);
     let symbol = rules::symbol_of(rec, line);
     let serial = first_serial(rec, line);
+    let month = calendar::month_of(rec, line, CHECK_ACCOUNTING_MONTH_AND_YEAR);
     let amount = money::field_amount(rec, line, SUMMARY_TOTAL_AMOUNT);
     Header {
         number,
@@ -104,8 +116,10 @@ fn read_header(book: &[u8], shelves: Book, rec: &[u8], line: Line, crowded: bool
         payer,
         symbol,
         serial,
+        month,
         amount,
         crowded,
+        today,
     }
 }
 
@@ -114,16 +128,18 @@ fn read_header(book: &[u8], shelves: Book, rec: &[u8], line: Line, crowded: bool
 pub(crate) fn open_batch(
     book: &[u8],
     shelves: Book,
+    today: Today,
     rec: &[u8],
     line: Line,
     repeats: bool,
     crowded: bool,
 ) -> State
     requires { ⌜ Usable (now book) shelves × (length (now rec) ≡ 850) ⌝ }
-    ensures { λ r. ⌜ r ≡ opening (listedAt (now (book .entry)) shelves) repeats crowded (line .number) (seen line (now (rec .entry))) ⌝ }
+    ensures { λ r. ⌜ r ≡ opening (listedAt (now (book .entry)) shelves) today repeats crowded (line .number) (seen line (now (rec .entry))) ⌝ }
 {
-    let header = read_header(book, shelves, rec, line, crowded);
+    let header = read_header(book, shelves, today, rec, line, crowded);
     let symbol = header.symbol;
+    let month = header.month;
     let letter = header.letter;
     let payer = header.payer;
     let codes = lookups::location_only(payer.listed);
@@ -135,8 +151,10 @@ pub(crate) fn open_batch(
         codes,
         symbol,
         serial: header.serial,
+        month,
         payments,
         total: none,
+        today,
     };
     let sound = Finding {
         reason: 0,
@@ -161,15 +179,19 @@ fn context_of(state: State, repeats: bool, reporter: bool, codes: Codes) -> Cont
 {
     let header = state.header;
     let symbol = header.symbol;
+    let month = header.month;
     let total = state.total;
+    let today = header.today;
     Context {
         repeats,
         reporter,
         codes,
         symbol,
         serial: header.serial,
+        month,
         payments: state.payments,
         total,
+        today,
     }
 }
 

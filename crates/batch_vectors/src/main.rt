@@ -6,6 +6,8 @@ mod table;
 
 use batch::Row;
 use book::Book;
+use calendar::Today;
+use calendar::clock;
 use files::AT_HAND;
 use files::SPACE;
 use nesting::Verdict;
@@ -53,19 +55,28 @@ fn show_none() {
     io::write_all(1, b"no batch");
 }
 
-// The row of the batch whose records are the part of the file behind FH.
-fn show_batch(book: &[u8], shelves: Book, part: &[u8], repeats: bool)
+// Today by a case's word: 2024-02-29 is lent where it is 2.
+fn today_by(word: usize) -> Today {
+    if word == 2 {
+        return clock::read_today(b"\xF2\xF0\xF2\xF4\xF0\xF2\xF2\xF9");
+    }
+    Today::Unlent
+}
+
+// The row of the batch whose records are the part of the file behind FH; its schedule number repeats where the case's word is 1.
+fn show_batch(book: &[u8], shelves: Book, part: &[u8], word: usize)
     requires { ⌜ Usable (now book) shelves × Judgeable 2 (shown false (now part)) ⌝ }
 {
     let first = Line {
         number: 2,
         ascii: false,
     };
-    show_row(batch::judge_batch(book, shelves, part, first, repeats));
+    let today = today_by(word);
+    show_row(batch::judge_batch(book, shelves, today, part, first, word == 1));
 }
 
 // A file's only batch stands between FH and FT.
-fn show_file(book: &[u8], shelves: Book, file: &[u8], repeats: bool)
+fn show_file(book: &[u8], shelves: Book, file: &[u8], word: usize)
     requires { ⌜ Usable (now book) shelves × Cuttable (now file) ⌝ }
 {
     let found = survey::survey_file(file, false);
@@ -74,7 +85,7 @@ fn show_file(book: &[u8], shelves: Book, file: &[u8], repeats: bool)
         Verdict::Legal(batches, _) => {
             if batches == 1 {
                 let end = file.len() - 850;
-                show_batch(book, shelves, &file[850..end], repeats);
+                show_batch(book, shelves, &file[850..end], word);
             } else {
                 show_none();
             }
@@ -86,12 +97,12 @@ fn show_file(book: &[u8], shelves: Book, file: &[u8], repeats: bool)
 }
 
 // The first records of the space are a file.
-fn show_records(book: &[u8], shelves: Book, space: &[u8], records: usize, repeats: bool)
+fn show_records(book: &[u8], shelves: Book, space: &[u8], records: usize, word: usize)
     requires { ⌜ Usable (now book) shelves × (records ≤ 1100) ⌝ }
 {
     let size = records * 850;
     if size <= space.len() {
-        show_file(book, shelves, &space[..size], repeats);
+        show_file(book, shelves, &space[..size], word);
     }
 }
 
@@ -106,11 +117,11 @@ fn show_case(
     requires { ⌜ Usable (now book) shelves × (48 ≤ length (now row)) ⌝ }
 {
     let letter = table::next_letter(row, table::LABEL);
-    let repeats = table::next_number(row, letter.next);
-    let shape = table::next_shape(row, repeats.next);
+    let word = table::next_number(row, letter.next);
+    let shape = table::next_shape(row, word.next);
     let records = files::build(file, at_hand, letter.value, shape);
     changes::make_changes(file, row, shape.next);
-    show_records(book, shelves, file, records, repeats.value == 1);
+    show_records(book, shelves, file, records, word.value);
 }
 
 // A row: its label, and what it shows.

@@ -1,5 +1,5 @@
 // The table of cases, text in ASCII. A row is a label of 48 columns, then words: the batch's letter, 1 where its schedule number
-// repeats an earlier batch's, its payments, the DX, DT and DP of each, the number of changes, and the changes.
+// repeats an earlier batch's and 2 where today is lent, its payments, the DX, DT and DP of each, the number of changes, and the changes.
 ghost use Prim.Native.Nat.{_≤_, _<_};
 ghost use lib.ListN.{length};
 

@@ -8,11 +8,11 @@ use Prim.Native.Nat.{ℕ, zero, suc, _%_, _≤_, _<_}
 use native.Mathlib.Nat.{eq-or-lt-of-le, le-of-suc-le-suc, lt-irrefl}
 use native.Mathlib.Omega.{arith}
 use lib.Dec.{eqb, leb}
-use borrow.Author.Tests.{eq-eqb, ne-eqb, eqb-true}
+use borrow.Author.Tests.{eq-eqb, ne-eqb, eqb-true, leb-true, leb-false}
 use lib.ListN.{getD, List·getD-eq-default}
 use Rattle.record.specs.Choice.{_and_, _or_, choose}
 use Rattle.record.proofs.Chain.{and-left, and-right}
-use Rattle.calendar.specs.Calendar.{leap, lengths, daysIn}
+use Rattle.calendar.specs.Calendar.{leap, lengths, daysIn, realDay}
 
 module _ (y : ℕ) where
   pub not-fourth : (y % 4 ≡ 0 → ⊥) → false ≡ leap y
@@ -55,11 +55,11 @@ module _ (y m : ℕ) where
   thirty (inr (inr (inr e))) = rw e
 
 -- a test that holds below n, computed
-below : (ℕ → Bool) → ℕ → Bool
+unfoldable pub below : (ℕ → Bool) → ℕ → Bool
 below p zero = true
 below p (suc n) = p n and below p n
 
-below-at : (p : ℕ → Bool) (n m : ℕ) → below p n ≡ true → m < n → p m ≡ true
+pub below-at : (p : ℕ → Bool) (n m : ℕ) → below p n ≡ true → m < n → p m ≡ true
 unfolding below
 below-at p zero m e h = absurd (omega (arith, h))
 below-at p (suc n) m e h =
@@ -92,3 +92,35 @@ thirty-one y m h k b c =
 -- the days that were asked for
 pub day-is : (y m d n : ℕ) → n ≡ daysIn y m → leb d n ≡ leb d (daysIn y m)
 day-is y m d n e = ap (leb d) e
+
+pub less-or : (a b : ℕ) → (a < b) ⊎ (b ≤ a)
+less-or a b = go (leb b a) refl
+  where
+    go : (t : Bool) → leb b a ≡ t → (a < b) ⊎ (b ≤ a)
+    go true e = inr (leb-true b a e)
+    go false e = inl (leb-false b a e)
+
+-- what a real day is
+pub record Real (y m d : ℕ) : Type 0 where
+  pub year-from : 1 ≤ y
+  pub year-to : y ≤ 9999
+  pub month-from : 1 ≤ m
+  pub month-to : m ≤ 12
+  pub day-from : 1 ≤ d
+  pub day-to : d ≤ daysIn y m
+
+pub real : (y m d : ℕ) → realDay y m d ≡ true → Real y m d
+unfolding realDay
+real y m d e =
+    let years = and-right (leb 1 y) _ e in
+    let days = and-right (leb y 9999) _ years in
+    let a = leb-true 1 d (and-left _ _ days) in
+    let b = leb-true d (daysIn y m) (and-right (leb 1 d) _ days) in
+    record {
+      year-from = leb-true 1 y (and-left _ _ e);
+      year-to = leb-true y 9999 (and-left _ _ years);
+      month-from = ⊎-elim (λ q. absurd (omega (arith, no-month-below y m q))) (λ q. q) (less-or m 1);
+      month-to = ⊎-elim (λ q. absurd (omega (arith, no-month-above y m q))) (λ q. q) (less-or 12 m);
+      day-from = a;
+      day-to = b;
+    }

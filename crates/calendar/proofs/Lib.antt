@@ -1,4 +1,7 @@
 mod Days
 mod Dates
+pub mod Counts
+mod Spans
+pub mod DayNumbers
 pub mod Examples
 mod Unique

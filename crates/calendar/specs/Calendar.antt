@@ -1,9 +1,9 @@
 -- The Gregorian calendar, and dates as fields write them (01 Date).
-use Prim.Native.Nat.{ℕ, _%_}
+use Prim.Native.Nat.{ℕ, _+_, _-_, _*_, _/_, _%_}
 use mathlib.Core.Bool.{Bool, not}
 use mathlib.Core.List.{List, [], _∷_}
 use lib.Dec.{leb, eqb}
-use lib.ListN.{getD}
+use lib.ListN.{getD, take}
 use lib.Seq.{slice}
 use Rattle.record.specs.Choice.{_and_, _or_, choose}
 use Rattle.record.specs.Tests.{digits}
@@ -45,3 +45,16 @@ plainDate xs = digits xs and realDay (numeral (slice 0 4 xs)) (numeral (slice 4 
 -- MMYY with a month 01 to 12 (004 field 20)
 unfoldable pub monthYear : List ℕ → Bool
 monthYear xs = digits xs and leb 1 (numeral (slice 0 2 xs)) and leb (numeral (slice 0 2 xs)) 12
+
+-- the days of months
+unfoldable pub daysOf : List ℕ → ℕ
+daysOf [] = 0
+daysOf (n ∷ ns) = n + daysOf ns
+
+-- the days of the years 0001 to y: 365 each, and one more every fourth year, but of the full centuries only every fourth
+unfoldable pub yearsThrough : ℕ → ℕ
+yearsThrough y = 365 * y + (y / 4 + y / 400 - y / 100)
+
+-- the number of a day: 0001-01-01 is day 1 (02 W4)
+unfoldable pub dayNumber : ℕ → ℕ → ℕ → ℕ
+dayNumber y m d = yearsThrough (y - 1) + daysOf (take (m - 1) (lengths (leap y))) + d

@@ -1,9 +1,41 @@
-// Dates in fields, by the Gregorian calendar (document 01, Date).
+// Dates in fields, by the Gregorian calendar (document 01, Date), and the rules that need today's (02 W4).
+pub mod clock;
+mod limits;
+
 use record::Field;
 use record::Line;
 ghost use mathlib.Core.Path.{_≡_};
 ghost use Rattle.record.specs.Value.{Has, seen, written, held};
-ghost use Rattle.calendar.specs.Calendar.{leap, daysIn, realDay, dashes, dashedDate, plainDate, monthYear};
+ghost use mathlib.Core.Bool.{true};
+ghost use Prim.Native.Nat.{_-_, _≤_};
+ghost use lib.ListN.{take};
+ghost use Rattle.calendar.specs.Calendar.{leap, lengths, daysIn, realDay, dashes, dashedDate, plainDate, monthYear, daysOf, dayNumber};
+ghost use Rattle.calendar.specs.Clock.{dayIn, monthIn};
+
+// A real day: its year, its month, and its number, counted from 0001-01-01.
+pub struct Day {
+    pub year: u64,
+    pub month: u64,
+    pub number: u64,
+}
+
+// A month of a year; year 0 and month 0 are none.
+pub struct Month {
+    pub year: u64,
+    pub month: u64,
+}
+
+// The difference of two days, with its sign.
+pub enum Span {
+    Ahead(u64),
+    Back(u64),
+}
+
+// Today, where the caller lends it.
+pub enum Today {
+    Unlent,
+    Lent(Day),
+}
 
 fn is_leap(year: u64) -> bool
     ensures { λ r. ⌜ r ≡ leap year ⌝ }
@@ -111,4 +143,65 @@ pub fn month_mmyy(rec: &[u8], line: Line, field: Field) -> bool
         return month <= 12;
     }
     false
+}
+
+// The days of the months before this one: first as if February had thirty.
+fn days_before(year: u64, month: u64) -> u64
+    requires { ⌜ (1 ≤ month) × (month ≤ 12) ⌝ }
+    ensures { λ r. ⌜ r ≡ daysOf (take (month - 1) (lengths (leap year))) ⌝ }
+{
+    let even = (367 * month - 362) / 12;
+    if month <= 2 {
+        return even;
+    }
+    if is_leap(year) {
+        return even - 1;
+    }
+    even - 2
+}
+
+// The number of a day, counted from 0001-01-01.
+fn day_number(year: u64, month: u64, day: u64) -> u64
+    requires { ⌜ (1 ≤ year) × (year ≤ 9999) × (1 ≤ month) × (month ≤ 12) × (day ≤ 31) ⌝ }
+    ensures { λ r. ⌜ r ≡ dayNumber year month day ⌝ }
+{
+    let past = year - 1;
+    let leap_days = past / 4 + past / 400 - past / 100;
+    365 * past + leap_days + days_before(year, month) + day
+}
+
+// The day of a field that is a date YYYYMMDD, as it stands.
+pub fn day_of(rec: &[u8], line: Line, field: Field) -> Day
+    requires { ⌜ Has (now rec) field × (field .width ≡ 8) × (plainDate (written (seen line (now rec)) field) ≡ true) ⌝ }
+    ensures { λ r. ⌜ r ≡ dayIn (written (seen line (now (rec .entry))) field) ⌝ }
+{
+    let year = record::written_number(rec, line, field, 0, 4);
+    let month = record::written_number(rec, line, field, 4, 6);
+    let day = record::written_number(rec, line, field, 6, 8);
+    let number = day_number(year, month, day);
+    Day {
+        year,
+        month,
+        number,
+    }
+}
+
+// The month of a field that is MMYY, in the years 2000 to 2099; none of any other. A field that is blank, as in all batches but BC, is told
+// first.
+pub fn month_of(rec: &[u8], line: Line, field: Field) -> Month
+    requires { ⌜ Has (now rec) field × (field .width ≡ 4) ⌝ }
+    ensures { λ r. ⌜ r ≡ monthIn (held (seen line (now (rec .entry))) field) ⌝ }
+{
+    if record::field_blank(rec, line, field) {
+        return Month { year: 0, month: 0 };
+    }
+    if month_mmyy(rec, line, field) {
+        let month = record::part_number(rec, line, field, 0, 2);
+        let year = record::part_number(rec, line, field, 2, 4);
+        return Month {
+            year: 2000 + year,
+            month,
+        };
+    }
+    Month { year: 0, month: 0 }
 }

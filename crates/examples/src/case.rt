@@ -8,6 +8,7 @@
 //     ASCII              the file made so far, in ASCII; the bytes of later changes stand as they are
 //     file 849           the bytes of the file, where they are not all
 //     book 41            the bytes of the code book
+//     today 8            the bytes of today: the book's space has them from 513 on, and they are changed as its own are
 //     report 127         the bytes of the report space, where they are not the room that its batches need
 //
 // The first letter tells what an item is; batches stand before the others.
@@ -26,14 +27,17 @@ ghost use Prim.Native.Nat.{_≤_, _<_};
 ghost use lib.ListN.{length};
 ghost use Rattle.examples.specs.Sized.{Sized};
 
-// The bytes of a code book, at most.
-pub(crate) const BOOK: usize = 512;
+// The bytes of a code book, at most, and of the space in which today's stand after them.
+pub(crate) const TODAY: usize = 512;
 
-// What the file has, the bytes of file, book and report that the judge is lent, and where the next item is looked for.
+pub(crate) const BOOK: usize = 528;
+
+// What the file has, the bytes of file, book, today and report that the judge is lent, and where the next item is looked for.
 pub(crate) struct Case {
     pub(crate) made: Made,
     pub(crate) file: usize,
     pub(crate) book: usize,
+    pub(crate) today: usize,
     pub(crate) report: usize,
     pub(crate) next: usize,
 }
@@ -51,7 +55,7 @@ fn letter_place(letter: u8) -> usize
     }
 }
 
-// A case whose file is all that was made, with room for its rows.
+// A case whose file is all that was made, with room for its rows and nothing lent for today.
 fn whole(made: Made, book: usize, next: usize) -> Case
     requires { ⌜ Sized made ⌝ }
     ensures { λ r. ⌜ Sized (r .made) × (r .next ≡ next) ⌝ }
@@ -62,6 +66,7 @@ fn whole(made: Made, book: usize, next: usize) -> Case
         made,
         file,
         book,
+        today: 0,
         report,
         next,
     }
@@ -127,6 +132,7 @@ fn moved(case: Case, next: usize) -> Case
         made,
         file: case.file,
         book: case.book,
+        today: case.today,
         report: case.report,
         next,
     }
@@ -166,12 +172,14 @@ fn lent(case: Case, name: u8, number: Number) -> Case
     let made = case.made;
     let file = either(name == b'f', number.value, case.file);
     let book = either(name == b'b', number.value, case.book);
+    let today = either(name == b't', number.value, case.today);
     let report = either(name == b'r', number.value, case.report);
     let next = number.next;
     Case {
         made,
         file,
         book,
+        today,
         report,
         next,
     }

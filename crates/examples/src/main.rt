@@ -9,6 +9,7 @@ mod table;
 
 use case::BOOK;
 use case::Case;
+use case::TODAY;
 use files::AT_HAND;
 use files::RECORDS;
 use files::SPACE;
@@ -19,7 +20,7 @@ ghost use Rattle.report.specs.Rows.{roomFor};
 ghost use Rattle.examples.specs.Sized.{Sized};
 
 // The most bytes of the table.
-const TABLE: usize = 393216;
+const TABLE: usize = 458752;
 
 // The bytes of the report space; the judge is lent the first of them.
 const REPORT: usize = 1024;
@@ -94,11 +95,11 @@ fn show_rows(report: &[u8; REPORT], batches: usize)
 }
 
 // Judges, and shows the answer; an accepted file has so many batches.
-fn show_answer(file: &[u8], book: &[u8], room: usize, batches: usize)
+fn show_answer(file: &[u8], book: &[u8], today: &[u8], room: usize, batches: usize)
     requires { ⌜ (room ≤ 1024) × (batches < 65536) × (roomFor batches ≤ 1024) ⌝ }
 {
     let mut report = marked();
-    let answer = judge::srf_judge(file, book, &mut report[..room]);
+    let answer = judge::srf_judge_with(file, book, today, &mut report[..room]);
     io::print_decimal(1, answer);
     io::write_all(1, b" /");
     if answer == 0 {
@@ -106,6 +107,19 @@ fn show_answer(file: &[u8], book: &[u8], room: usize, batches: usize)
         show_kept(&report, report::room_for(batches));
     } else {
         show_kept(&report, 0);
+    }
+}
+
+// Today stands in the book's space, after the book.
+fn show_lent(file: &[u8], book: &[u8], space: &[u8], size: usize, room: usize, batches: usize)
+    requires { ⌜ (room ≤ 1024) × (batches < 65536) × (roomFor batches ≤ 1024) ⌝ }
+{
+    if size <= 16 {
+        let today = TODAY;
+        let end = today + size;
+        if end <= space.len() {
+            show_answer(file, book, &space[today..end], room, batches);
+        }
     }
 }
 
@@ -119,7 +133,14 @@ fn show_case(file: &[u8], book: &[u8], case: Case)
     let file_end = case.file;
     let book_end = case.book;
     if case.report <= REPORT && rows <= REPORT && file_end <= file.len() && book_end <= book.len() {
-        show_answer(&file[..file_end], &book[..book_end], case.report, batches);
+        show_lent(
+            &file[..file_end],
+            &book[..book_end],
+            book,
+            case.today,
+            case.report,
+            batches,
+        );
     }
 }
 

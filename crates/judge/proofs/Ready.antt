@@ -10,6 +10,8 @@ use lib.ListN.{length}
 use borrow.Author.Tests.{eqb-true, eqb-false, ltb-true, ltb-false}
 use Rattle.page.specs.CodePage.{shown, isAscii}
 use Rattle.page.proofs.Shown.{translated-is}
+use Rattle.calendar.specs.declared.Today.{Today}
+use Rattle.calendar.specs.Clock.{todayOf}
 use Rattle.book.specs.Book.{Contents, Lists, listedAt, Usable, placed}
 use Rattle.book.specs.Book.Opened.{sound}
 use Rattle.book.proofs.Chains.{usable, listed-there}
@@ -28,9 +30,9 @@ use Rattle.judge.specs.Judged.{Judged, Promised}
 pub not-zero : (k : Reason) (m : ℕ) → numberOf k * 100000 + m ≡ 0 → ⊥
 not-zero k m e = let h = some-number k in omega arith
 
-module _ (file book : List ℕ) where
+module _ (file book today : List ℕ) where
   -- a file that is accepted is cut into whole records, and the report has room
-  module _ (room : ℕ) (none : (j : Reason) → Applies file book room j → ⊥) where
+  module _ (room : ℕ) (none : (j : Reason) → Applies file book today room j → ⊥) where
     cuttable : Cuttable file
     cuttable =
         record { whole = whole (eqb (length file % 850) 0) refl; few = few (ltb (65535 * 850) (length file)) refl }
@@ -52,14 +54,14 @@ module _ (file book : List ℕ) where
 
   -- what the entry knows where the verdict is 0
   pub record Ready (report : List ℕ) (v : Verdict) : Type 0 where
-    pub none : (j : Reason) → Applies file book (length report) j → ⊥
+    pub none : (j : Reason) → Applies file book today (length report) j → ⊥
     pub contents : Contents
     pub lists : Lists book contents
     pub division : Division
     pub divided : DivisionOf (records file) division
     pub is : v ≡ acceptance contents division
 
-  pub ready : (report : List ℕ) (v : Verdict) → Judgement file book (length report) v → v .answer ≡ 0 → Ready report v
+  pub ready : (report : List ℕ) (v : Verdict) → Judgement file book today (length report) v → v .answer ≡ 0 → Ready report v
   unfolding refusal
   ready report v (refused k m r) e = absurd (not-zero k m e)
   ready report v (accepted n c l d h) e = record { none = n; contents = c; lists = l; division = d; divided = h; is = refl }
@@ -84,24 +86,24 @@ module _ (file book : List ℕ) where
         })
 
     -- the rows that were written are the promised ones
-    ready-judged : (after : List ℕ) → Written (listedAt book (v .shelves)) file report after → Judged file book report 0 after
+    ready-judged : (after : List ℕ) → Written (listedAt book (v .shelves)) (todayOf today) file report after → Judged file book today report 0 after
     unfolding acceptance
     ready-judged after w =
         let there : listedAt book (v .shelves) ≡ r .contents = ap (λ (u : Verdict). listedAt book (u .shelves)) (r .is) ∙ listed-there book (r .contents) (r .lists) in
-        let e = w (r .division) (r .divided) ∙ ap (λ (c : Contents). reported report (headOf (r .division)) (rowsOf c (r .division))) there in
+        let e = w (r .division) (r .divided) ∙ ap (λ (c : Contents). reported report (headOf (r .division)) (rowsOf c (todayOf today) (r .division))) there in
         rw e (Judged.accepted (r .none) (r .contents) (r .lists) (r .division) (r .divided))
 
   -- a refusal leaves the report as it was
-  kept : (report : List ℕ) (v : Verdict) → Judgement file book (length report) v → (v .answer ≡ 0 → ⊥) → Judged file book report (v .answer) report
+  kept : (report : List ℕ) (v : Verdict) → Judgement file book today (length report) v → (v .answer ≡ 0 → ⊥) → Judged file book today report (v .answer) report
   unfolding refusal acceptance
   kept report v (refused k m r) n = Judged.refused k m r
   kept report v (accepted n c l d h) z = absurd (z refl)
 
 -- the same of the file that was sent, which is ASCII or not
-module _ (sent book : List ℕ) (ascii : Bool) (a : ascii ≡ isAscii sent) (report : List ℕ) (v : Verdict) where
-  pub ready-promised : Ready (shown ascii sent) book report v → (after : List ℕ) → Written (listedAt book (v .shelves)) (shown ascii sent) report after
-      → Promised sent book report 0 after
-  ready-promised r after w = rw (← translated-is sent ascii a) (ready-judged (shown ascii sent) book report v r after w)
+module _ (sent book today : List ℕ) (ascii : Bool) (a : ascii ≡ isAscii sent) (report : List ℕ) (v : Verdict) where
+  pub ready-promised : Ready (shown ascii sent) book today report v → (day : Today) → day ≡ todayOf today → (after : List ℕ) → Written (listedAt book (v .shelves)) day (shown ascii sent) report after
+      → Promised sent book today report 0 after
+  ready-promised r day e after w = rw (← translated-is sent ascii a) (ready-judged (shown ascii sent) book today report v r after (rw e at w))
 
-  pub kept-promised : Judgement (shown ascii sent) book (length report) v → (v .answer ≡ 0 → ⊥) → Promised sent book report (v .answer) report
-  kept-promised j n = rw (← translated-is sent ascii a) (kept (shown ascii sent) book report v j n)
+  pub kept-promised : Judgement (shown ascii sent) book today (length report) v → (v .answer ≡ 0 → ⊥) → Promised sent book today report (v .answer) report
+  kept-promised j n = rw (← translated-is sent ascii a) (kept (shown ascii sent) book today report v j n)

@@ -24,8 +24,9 @@ use Rattle.reasons.proofs.values.number.Reads as number
 use Rattle.reasons.proofs.values.if_number.Reads as if-number
 use Rattle.reasons.proofs.values.unbroken.Reads as unbroken
 use Rattle.reasons.proofs.values.dashed_day.Reads as dashed-day
-use Rattle.reasons.proofs.values.plain_day.Reads as plain-day
-use Rattle.reasons.proofs.values.month_and_year.Reads as month-and-year
+use Rattle.reasons.proofs.dates.creation_day.Reads as creation-day
+use Rattle.reasons.proofs.dates.accounting_month.Reads as accounting-month
+use Rattle.reasons.proofs.dates.issue_day.Reads as issue-day
 use Rattle.reasons.proofs.values.routing_number.Reads as routing-number
 use Rattle.reasons.proofs.values.if_postal.Reads as if-postal
 
@@ -95,14 +96,17 @@ unbroken-unique κs a r s x y p q = p ∙ sym q
 pub dashed-day-unique : OneResult dashed-day.Post
 dashed-day-unique κs a r s x y p q = p ∙ sym q
 
-pub plain-day-unique : OneResult plain-day.Post
-plain-day-unique κs a r s x y p q = p ∙ sym q
-
-pub month-and-year-unique : OneResult month-and-year.Post
-month-and-year-unique κs a r s x y p q = p ∙ sym q
-
 pub routing-number-unique : OneResult routing-number.Post
 routing-number-unique κs a r s x y p q = p ∙ sym q
 
 pub if-postal-unique : OneResult if-postal.Post
 if-postal-unique κs a r s x y p q = p ∙ sym q
+
+pub creation-day-unique : OneResult creation-day.Post
+creation-day-unique κs a r s x y p q = p ∙ sym q
+
+pub accounting-month-unique : OneResult accounting-month.Post
+accounting-month-unique κs a r s x y p q = p ∙ sym q
+
+pub issue-day-unique : OneResult issue-day.Post
+issue-day-unique κs a r s x y p q = p ∙ sym q

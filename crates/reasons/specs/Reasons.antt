@@ -9,7 +9,12 @@ use Rattle.record.specs.Tests.{blank, zeros, digits, alike, solid}
 use Rattle.record.specs.Numeral.{numeral}
 use Rattle.record.specs.Routing.{routing}
 use Rattle.money.specs.Money.{cents}
+use Rattle.calendar.specs.declared.Day.{Day}
+use Rattle.calendar.specs.declared.Month.{Month}
+use Rattle.calendar.specs.declared.Today.{Today}
+use Rattle.calendar.specs.declared.Today.the-variants.{Unlent, Lent}
 use Rattle.calendar.specs.Calendar.{dashedDate, plainDate, monthYear}
+use Rattle.calendar.specs.Clock.{dayIn, monthIn, created, accountable, issued}
 use Rattle.reasons.specs.Lists.{oneOf}
 
 -- required
@@ -35,6 +40,23 @@ plainDay v = choose (blank v) 1 (choose (plainDate v) 0 5)
 -- MMYY, four digits, month 01-12 (field 20)
 unfoldable pub monthAndYear : List ℕ → ℕ
 monthAndYear v = choose (blank v) 1 (choose (digits v) (choose (monthYear v) 0 5) 2)
+
+-- a rule of today's: 15 is the last reason of its field, drawn where it draws no other; with nothing lent all is as before (02 W4)
+unfoldable pub timely : Today → (Day → Bool) → ℕ → ℕ
+timely Unlent rule reason = reason
+timely (Lent today) rule reason = choose (eqb reason 0) (choose (rule today) 0 15) reason
+
+-- a date YYYYMMDD that is not after today (field 17)
+unfoldable pub creationDay : Today → List ℕ → ℕ
+creationDay today v = timely today (λ t. created t (dayIn v)) (plainDay v)
+
+-- a month MMYY that is neither too far ahead nor too far back (field 20)
+unfoldable pub accountingMonth : Today → List ℕ → ℕ
+accountingMonth today v = timely today (λ t. accountable t (monthIn v)) (monthAndYear v)
+
+-- a date YYYYMMDD in the accounting month, neither too old nor too far ahead (field 59)
+unfoldable pub issueDay : Today → Month → List ℕ → ℕ
+issueDay today month v = timely today (λ t. issued t month (dayIn v)) (plainDay v)
 
 -- a routing number
 unfoldable pub routingNumber : List ℕ → ℕ

@@ -1,6 +1,7 @@
 // What is wrong with a field (01 Batch reasons), and the first of what is wrong.
 pub mod amounts;
 pub mod checks;
+pub mod dates;
 pub mod lists;
 pub mod lookups;
 pub mod values;
@@ -26,6 +27,8 @@ const UNLIKE: usize = 7;
 const RANGE: usize = 8;
 
 const SUM: usize = 14;
+
+const TIME: usize = 15;
 
 // A reason, 0 where nothing is wrong, with the numbers of the record and of 004's field.
 pub struct Finding {

@@ -79,7 +79,7 @@ pub fn dashed_day(rec: &[u8], line: Line, field: Field) -> usize
 }
 
 // A date YYYYMMDD.
-pub fn plain_day(rec: &[u8], line: Line, field: Field) -> usize
+pub(crate) fn plain_day(rec: &[u8], line: Line, field: Field) -> usize
     requires { ⌜ Has (now rec) field × (field .width ≡ 8) × (field .justification ≡ Fixed) ⌝ }
     ensures { λ r. ⌜ r ≡ plainDay (held (seen line (now (rec .entry))) field) ⌝ }
 {
@@ -92,8 +92,8 @@ pub fn plain_day(rec: &[u8], line: Line, field: Field) -> usize
     NO_DAY
 }
 
-// MMYY, four digits, month 01-12 (field 20).
-pub fn month_and_year(rec: &[u8], line: Line, field: Field) -> usize
+// MMYY, four digits, month 01-12.
+pub(crate) fn month_and_year(rec: &[u8], line: Line, field: Field) -> usize
     requires { ⌜ Has (now rec) field × (field .width ≡ 4) ⌝ }
     ensures { λ r. ⌜ r ≡ monthAndYear (held (seen line (now (rec .entry))) field) ⌝ }
 {

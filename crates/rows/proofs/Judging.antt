@@ -8,6 +8,7 @@ use native.Mathlib.Omega.{arith}
 use lib.ListN.{length, take, drop}
 use Rattle.page.specs.CodePage.{shown}
 use Rattle.page.proofs.Shown.{shown-length, shown-take, shown-drop}
+use Rattle.calendar.specs.declared.Today.{Today}
 use Rattle.book.specs.Book.{Contents}
 use Rattle.nesting.specs.Division.{batchLines}
 use Rattle.batch.specs.declared.Row.{Row}
@@ -39,8 +40,8 @@ module _ (ascii : Bool) (sent : List ℕ) {place : ℕ} (s : Opens (shown ascii 
   pub opens-judgeable : Judgeable (place + 1) (shown ascii (restOf sent place))
   opens-judgeable = rw rest-is (judgeable (s .cuttable) (s .stands))
 
-  module _ (book : Contents) (repeats : Bool) (row : Row) (told : IsRow book repeats (place + 1) (shown ascii (restOf sent place)) row) where
-    r : IsRow book repeats (place + 1) (restOf f place) row
+  module _ (book : Contents) (today : Today) (repeats : Bool) (row : Row) (told : IsRow book today repeats (place + 1) (shown ascii (restOf sent place)) row) where
+    r : IsRow book today repeats (place + 1) (restOf f place) row
     r = rw rest-is at told
 
     -- the batch's end
@@ -51,17 +52,17 @@ module _ (ascii : Bool) (sent : List ℕ) {place : ℕ} (s : Opens (shown ascii 
         omega (arith, e, size, s .cuttable .few)
 
     -- what was found of it is what was asked
-    pub is-judged : (ns : List ℕ) → ns ≡ batchRow row → IsJudged book f repeats place (record { numbers = ns; place = place + row .records })
+    pub is-judged : (ns : List ℕ) → ns ≡ batchRow row → IsJudged book today f repeats place (record { numbers = ns; place = place + row .records })
     unfolding judged rowOf
     is-judged ns q earlier b t =
-        let e : row ≡ rowOf book repeats (place + 1) b = r b (batch-of (s .cuttable) t) in
+        let e : row ≡ rowOf book today repeats (place + 1) b = r b (batch-of (s .cuttable) t) in
         let m : row .records ≡ length (batchLines b) = ap (λ (q : Row). q .records) e in
-        let o : ns ≡ batchRow (rowOf book repeats (place + 1) b) = q ∙ ap batchRow e in
+        let o : ns ≡ batchRow (rowOf book today repeats (place + 1) b) = q ∙ ap batchRow e in
         rw (o, m)
 
 -- its row is written behind so many others
-pub is-written : (book : Contents) (file : List ℕ) (repeats : Bool) (place written at : ℕ) (report after : List ℕ) (r : Judged) → IsJudged book file repeats place r → at ≡ rowAt written
-    → after ≡ over report at (rowBytes (r .numbers)) → IsWritten book file repeats place written report (r .place) after
-is-written book file repeats place written at report after r j q p earlier b t =
-    let e : r ≡ judged book repeats place b = j earlier b t in
+pub is-written : (book : Contents) (today : Today) (file : List ℕ) (repeats : Bool) (place written at : ℕ) (report after : List ℕ) (r : Judged) → IsJudged book today file repeats place r → at ≡ rowAt written
+    → after ≡ over report at (rowBytes (r .numbers)) → IsWritten book today file repeats place written report (r .place) after
+is-written book today file repeats place written at report after r j q p earlier b t =
+    let e : r ≡ judged book today repeats place b = j earlier b t in
     (ap (λ (x : Judged). x .place) e, p ∙ rw (q, e))

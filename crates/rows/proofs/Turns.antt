@@ -8,6 +8,8 @@ use native.Mathlib.Omega.{arith}
 use lib.ListN.{length, take, drop, length-append, take-append-drop}
 use lib.Seq.{length-take-le, take-take, take-at}
 use Rattle.money.specs.declared.Amount.{Amount}
+use Rattle.calendar.specs.declared.Today.{Today}
+use Rattle.calendar.specs.declared.Today.the-variants.{Unlent}
 use Rattle.book.specs.Book.{Contents}
 use Rattle.nesting.specs.Division.{Batch, Division, DivisionOf, batchLines, recordsBefore, lines}
 use Rattle.nesting.specs.Records.{records}
@@ -50,7 +52,7 @@ all-rows first report rows batches h n f r =
 
 -- the report `first` has the head; behind it the rows of the earlier batches stand in the report, those of the later ones are left, and
 -- what is known of their numbers is noted
-pub record Going (book : Contents) (file : List ℕ) (payments batches : ℕ) (first report greatest : List ℕ) (marked : Bool) (place written : ℕ) : Type 0 where
+pub record Going (book : Contents) (today : Today) (file : List ℕ) (payments batches : ℕ) (first report greatest : List ℕ) (marked : Bool) (place written : ℕ) : Type 0 where
   pub total : Amount
   pub writable : Writable file payments total batches first
   pub earlier : List Batch
@@ -65,10 +67,10 @@ pub record Going (book : Contents) (file : List ℕ) (payments batches : ℕ) (f
   pub long : length report ≡ length first
   pub front : take (rowAt written) report ≡ take (rowAt 0) first ++ rowsBytes rows
   pub rear : drop (roomFor batches) report ≡ drop (roomFor batches) first
-  pub decides : rowsOf book (writable .division) ≡ rows ++ batchRows book (place + 1) earlier later
+  pub decides : rowsOf book today (writable .division) ≡ rows ++ batchRows book today (place + 1) earlier later
 
-module _ {book : Contents} {file : List ℕ} {payments batches : ℕ} {first report greatest : List ℕ} {marked : Bool} {place written : ℕ}
-    (g : Going book file payments batches first report greatest marked place written) where
+module _ {book : Contents} {today : Today} {file : List ℕ} {payments batches : ℕ} {first report greatest : List ℕ} {marked : Bool} {place written : ℕ}
+    (g : Going book today file payments batches first report greatest marked place written) where
   abbrev w : Writable file payments (g .total) batches first
   w = g .writable
 
@@ -171,18 +173,18 @@ module _ {book : Contents} {file : List ℕ} {payments batches : ℕ} {first rep
           (take-through (over report (flagsAt batches written) flags) (rowAt written) row i
           ∙ ap (λ (xs : List ℕ). xs ++ row) (rows-stay batches written report flags row h room fits l i ∙ g .front))
 
-      pub turned : (next' : ℕ) (after : List ℕ) → IsWritten book file (n .repeats) place written mid next' after → Going book file payments batches first after (n .greatest) (n .marked) next' (written + 1)
+      pub turned : (next' : ℕ) (after : List ℕ) → IsWritten book today file (n .repeats) place written mid next' after → Going book today file payments batches first after (n .greatest) (n .marked) next' (written + 1)
       unfolding judged batchRows batchRow stands
       turned next' after j =
-          let r : Judged = judged book (n .repeats) place b in
+          let r : Judged = judged book today (n .repeats) place b in
           let eight : length (r .numbers) ≡ 8 = refl in
           let bytes : length (rowBytes (r .numbers)) ≡ 64 = row-length (r .numbers) eight in
           let z : next' ≡ place + length (batchLines b) = j (g .earlier) b stands .0 in
           let m : place + 1 + length (batchLines b) ≡ next' + 1 = omega (arith, z) in
           let a : after ≡ over (over report (flagsAt batches written) flags) (rowAt written) (rowBytes (r .numbers)) = j (g .earlier) b stands .1 ∙ rw o in
           let i : rowAt written ≤ length (over report (flagsAt batches written) flags) = rw (← o) (omega (arith, row-fits)) in
-          let k : r .numbers ≡ batchRow (rowOf book (member (scheduleOf b) (map scheduleOf (g .earlier))) (place + 1) b) =
-          ap (λ (t : Bool). batchRow (rowOf book t (place + 1) b)) repeats-is in
+          let k : r .numbers ≡ batchRow (rowOf book today (member (scheduleOf b) (map scheduleOf (g .earlier))) (place + 1) b) =
+          ap (λ (t : Bool). batchRow (rowOf book today t (place + 1) b)) repeats-is in
           record {
             total = g .total;
             writable = w;
@@ -199,16 +201,16 @@ module _ {book : Contents} {file : List ℕ} {payments batches : ℕ} {first rep
             front = front-after (rowBytes (r .numbers)) bytes i after a ∙ rw (rows-snoc (g .rows) (r .numbers)) (append-assoc (take (rowAt 0) first) (rowsBytes (g .rows)) (rowBytes (r .numbers)));
             rear = rw a (rest-stays batches written report flags (rowBytes (r .numbers)) h room fits bytes i) ∙ g .rear;
             decides =
-                g .decides ∙ ap (λ (bs : List Batch). g .rows ++ batchRows book (place + 1) (g .earlier) bs) (next .2)
-                ∙ (λ i. g .rows ++ sym k i ∷ batchRows book (m i) (g .earlier ++ b ∷ []) later)
+                g .decides ∙ ap (λ (bs : List Batch). g .rows ++ batchRows book today (place + 1) (g .earlier) bs) (next .2)
+                ∙ (λ i. g .rows ++ sym k i ∷ batchRows book today (m i) (g .earlier ++ b ∷ []) later)
                 ∙ sym (append-assoc (g .rows) (r .numbers ∷ []) _);
           }
 
 -- the same of another report with the head, which differs at the rows alone
-module _ {book : Contents} {file : List ℕ} {payments batches : ℕ} {first report greatest : List ℕ} {marked : Bool} {place written : ℕ}
-    (g : Going book file payments batches first report greatest marked place written) where
+module _ {book : Contents} {today : Today} {file : List ℕ} {payments batches : ℕ} {first report greatest : List ℕ} {marked : Bool} {place written : ℕ}
+    (g : Going book today file payments batches first report greatest marked place written) where
   based : (other : List ℕ) → length other ≡ length first → take (rowAt 0) other ≡ take (rowAt 0) first → drop (roomFor batches) other ≡ drop (roomFor batches) first
-      → Going book file payments batches other report greatest marked place written
+      → Going book today file payments batches other report greatest marked place written
   based other l f r =
       record {
         total = g .total;
@@ -244,13 +246,13 @@ module _ {book : Contents} {file : List ℕ} {payments batches : ℕ} {first rep
       sym (take-take (rowAt 0) (rowAt written) report (omega arith)) ∙ ap (take (rowAt 0)) (g .front) ∙ take-at (take (rowAt 0) first) (rowsBytes (g .rows)) (rowAt 0) n
 
 -- of the report that it is itself, and back
-module _ {book : Contents} {file : List ℕ} {payments batches : ℕ} {first report greatest : List ℕ} {marked : Bool} {place written : ℕ}
-    (g : Going book file payments batches first report greatest marked place written) where
-  pub rebased : Going book file payments batches report report greatest marked place written
+module _ {book : Contents} {today : Today} {file : List ℕ} {payments batches : ℕ} {first report greatest : List ℕ} {marked : Bool} {place written : ℕ}
+    (g : Going book today file payments batches first report greatest marked place written) where
+  pub rebased : Going book today file payments batches report report greatest marked place written
   rebased = based g report (g .long) (head-stays g) (g .rear)
 
-  pub onward : {later greatest' : List ℕ} {marked' : Bool} {place' written' : ℕ} → Going book file payments batches report later greatest' marked' place' written'
-      → Going book file payments batches first later greatest' marked' place' written'
+  pub onward : {later greatest' : List ℕ} {marked' : Bool} {place' written' : ℕ} → Going book today file payments batches report later greatest' marked' place' written'
+      → Going book today file payments batches first later greatest' marked' place' written'
   onward h = based h first (sym (g .long)) (sym (head-stays g)) (sym (g .rear))
 
 -- the head is written, and what the file's division comes to is what it says
@@ -271,9 +273,9 @@ module _ {file : List ℕ} {payments : ℕ} {total : Amount} {batches : ℕ} {be
   head-kept = rw p (over-length before 0 (rowBytes head) (rw (row-length head head-eight) (omega (arith, head-room batches (length before) (w .room)))))
 
   -- before the first batch
-  pub begun : (book : Contents) (greatest : List ℕ) → Going book file payments batches first first greatest false 1 0
+  pub begun : (book : Contents) (today : Today) (greatest : List ℕ) → Going book today file payments batches first first greatest false 1 0
   unfolding rowsOf rowsBytes
-  begun book greatest =
+  begun book today greatest =
       record {
         total = total;
         writable =
@@ -305,41 +307,41 @@ module _ {file : List ℕ} {payments : ℕ} {total : Amount} {batches : ℕ} {be
   pub some : 0 < batches
   some = omega (arith, w .divided .legal .some-batches, w .count)
 
-  -- the first batch stands behind FH, whatever the book lists
+  -- the first batch stands behind FH, whatever the book lists and whatever the day
   nothing : Contents
   nothing = record { systems = []; locations = []; betcs = []; types = []; states = []; countries = []; currencies = [] }
 
   pub first-opens : Opens file 1
-  first-opens = opens (begun nothing []) some
+  first-opens = opens (begun nothing Unlent []) some
 
   pub first-numberable : (greatest : List ℕ) → Numberable file 1 greatest false batches 0 first
-  first-numberable greatest = numberable (begun nothing greatest) some
+  first-numberable greatest = numberable (begun nothing Unlent greatest) some
 
   module _ (greatest : List ℕ) (o : Numbering) (mid : List ℕ) (q : o ≡ numbered file 1 greatest false)
       (f : mid ≡ over first (flagsAt batches 0) (flagged file 1 greatest false (flagsIn batches 0 first))) where
     pub first-fits : rowAt 0 + 64 ≤ length mid
-    first-fits = row-fits (begun nothing greatest) some o mid q f
+    first-fits = row-fits (begun nothing Unlent greatest) some o mid q f
 
     -- after it
-    pub opened : (book : Contents) (place : ℕ) (after : List ℕ) → IsWritten book file (o .repeats) 1 0 mid place after → Going book file payments batches first after (o .greatest) (o .marked) place 1
-    opened book place after j = turned (begun book greatest) some o mid q f place after j
+    pub opened : (book : Contents) (today : Today) (place : ℕ) (after : List ℕ) → IsWritten book today file (o .repeats) 1 0 mid place after → Going book today file payments batches first after (o .greatest) (o .marked) place 1
+    opened book today place after j = turned (begun book today greatest) some o mid q f place after j
 
   -- the report keeps its length
-  pub all-kept : {book : Contents} {report greatest : List ℕ} {marked : Bool} {place written : ℕ} → Going book file payments batches first report greatest marked place written
+  pub all-kept : {book : Contents} {today : Today} {report greatest : List ℕ} {marked : Bool} {place written : ℕ} → Going book today file payments batches first report greatest marked place written
       → length report ≡ length before
   all-kept g = g .long ∙ head-kept
 
   -- after the last
-  pub finished : {book : Contents} {report greatest : List ℕ} {marked : Bool} {place written : ℕ} → Going book file payments batches first report greatest marked place written
-      → batches ≤ written → Written book file before report
+  pub finished : {book : Contents} {today : Today} {report greatest : List ℕ} {marked : Bool} {place written : ℕ} → Going book today file payments batches first report greatest marked place written
+      → batches ≤ written → Written book today file before report
   unfolding batchRows
-  finished {book} {report} {place = place} {written = written} g h d q =
+  finished {book} {today} {report} {place = place} {written = written} g h d q =
       let n : g .later ≡ [] = none-left (g .later) (omega (arith, left g)) in
       let all : written ≡ batches = omega (arith, left g, ap length n) in
-      let k : rowsOf book (g .writable .division) ≡ g .rows =
-      g .decides ∙ ap (λ (bs : List Batch). g .rows ++ batchRows book (place + 1) (g .earlier) bs) n ∙ append-nil (g .rows) in
+      let k : rowsOf book today (g .writable .division) ≡ g .rows =
+      g .decides ∙ ap (λ (bs : List Batch). g .rows ++ batchRows book today (place + 1) (g .earlier) bs) n ∙ append-nil (g .rows) in
       let o : g .writable .division ≡ d = one-division (records file) (g .writable .division) d (g .writable .divided) q in
-      let m : rowsOf book d ≡ g .rows = ap (rowsOf book) (sym o) ∙ k in
+      let m : rowsOf book today d ≡ g .rows = ap (rowsOf book today) (sym o) ∙ k in
       let stand : report ≡ over first (rowAt 0) (rowsBytes (g .rows)) = all-rows first report (g .rows) batches (g .eights) (g .size ∙ all) (rw all at (g .front)) (g .rear) in
       stand ∙ ap (λ (f : List ℕ). over f (rowAt 0) (rowsBytes (g .rows))) p ∙ reported-is before head (g .rows) head-eight (g .eights)
       ∙ (λ i. reported before (head-is d q i) (sym m i))

@@ -7,6 +7,7 @@ use Rattle.record.specs.Fields.{scheduleNumber}
 use Rattle.record.specs.Value.{held}
 use Rattle.money.specs.declared.Amount.{Amount}
 use Rattle.money.specs.Money.{split}
+use Rattle.calendar.specs.declared.Today.{Today}
 use Rattle.book.specs.Book.{Contents}
 use Rattle.nesting.specs.Division.{Batch, Division, DivisionOf, batchLines, lines, paymentCount}
 use Rattle.nesting.specs.Paid.{paidByAll}
@@ -29,20 +30,21 @@ batchRow r =
 abbrev pub scheduleOf : Batch → List ℕ
 scheduleOf b = held (b .header) scheduleNumber
 
--- the rows of batches in file order, after the earlier ones, with a book that lists this; the first has the header's number n
-unfoldable pub batchRows : Contents → ℕ → List Batch → List Batch → List (List ℕ)
-batchRows book n earlier [] = []
-batchRows book n earlier (b ∷ bs) =
-    batchRow (rowOf book (member (scheduleOf b) (map scheduleOf earlier)) n b)
-    ∷ batchRows book (n + length (batchLines b)) (earlier ++ b ∷ []) bs
+-- the rows of batches in file order, after the earlier ones, with a book that lists this and today lent or not; the first has the header's
+-- number n
+unfoldable pub batchRows : Contents → Today → ℕ → List Batch → List Batch → List (List ℕ)
+batchRows book today n earlier [] = []
+batchRows book today n earlier (b ∷ bs) =
+    batchRow (rowOf book today (member (scheduleOf b) (map scheduleOf earlier)) n b)
+    ∷ batchRows book today (n + length (batchLines b)) (earlier ++ b ∷ []) bs
 
 -- the head of a file's division: its records, its payments and what they come to, its batches
 unfoldable pub headOf : Division → List ℕ
 headOf d = headRow (length (lines d)) (paymentCount (d .batches)) (split (paidByAll (d .batches))) (length (d .batches))
 
 -- the rows of its batches; FH is record 1
-unfoldable pub rowsOf : Contents → Division → List (List ℕ)
-rowsOf book d = batchRows book 2 [] (d .batches)
+unfoldable pub rowsOf : Contents → Today → Division → List (List ℕ)
+rowsOf book today d = batchRows book today 2 [] (d .batches)
 
 -- the report afterwards: the head, the rows, then what it held from there on
 unfoldable pub reported : List ℕ → List ℕ → List (List ℕ) → List ℕ
@@ -59,5 +61,5 @@ pub record Writable (file : List ℕ) (payments : ℕ) (total : Amount) (batches
   pub room : roomFor batches ≤ length report
 
 -- the head and the rows are those of the file's division
-abbrev pub Written : Contents → List ℕ → List ℕ → List ℕ → Type 0
-Written book file before after = (d : Division) → DivisionOf (records file) d → after ≡ reported before (headOf d) (rowsOf book d)
+abbrev pub Written : Contents → Today → List ℕ → List ℕ → List ℕ → Type 0
+Written book today file before after = (d : Division) → DivisionOf (records file) d → after ≡ reported before (headOf d) (rowsOf book today d)

@@ -4,6 +4,7 @@ use mathlib.Core.Path.{_≡_}
 use mathlib.Core.Bool.{Bool}
 use mathlib.Core.List.{List, _∷_, _++_}
 use lib.ListN.{length, take, drop}
+use Rattle.calendar.specs.declared.Today.{Today}
 use Rattle.book.specs.Book.{Contents}
 use Rattle.nesting.specs.Division.{Batch, Division, DivisionOf, batchLines, recordsBefore}
 use Rattle.nesting.specs.Records.{records, Cuttable}
@@ -29,18 +30,18 @@ pub record Opens (file : List ℕ) (place : ℕ) : Type 0 where
   pub stands : Stands file place earlier batch
 
 -- the numbers of the batch's row, an earlier batch having its schedule number or not, and the records up to its end
-unfoldable pub judged : Contents → Bool → ℕ → Batch → Judged
-judged book repeats place b = record { numbers = batchRow (rowOf book repeats (place + 1) b); place = place + length (batchLines b) }
+unfoldable pub judged : Contents → Today → Bool → ℕ → Batch → Judged
+judged book today repeats place b = record { numbers = batchRow (rowOf book today repeats (place + 1) b); place = place + length (batchLines b) }
 
 -- they are those of the batch that stands there
-abbrev pub IsJudged : Contents → List ℕ → Bool → ℕ → Judged → Type 0
-IsJudged book file repeats place r = (earlier : List Batch) (b : Batch) → Stands file place earlier b → r ≡ judged book repeats place b
+abbrev pub IsJudged : Contents → Today → List ℕ → Bool → ℕ → Judged → Type 0
+IsJudged book today file repeats place r = (earlier : List Batch) (b : Batch) → Stands file place earlier b → r ≡ judged book today repeats place b
 
 -- the records up to its end, and the report with its row behind so many others
-abbrev pub IsWritten : Contents → List ℕ → Bool → ℕ → ℕ → List ℕ → ℕ → List ℕ → Type 0
-IsWritten book file repeats place written report next after =
+abbrev pub IsWritten : Contents → Today → List ℕ → Bool → ℕ → ℕ → List ℕ → ℕ → List ℕ → Type 0
+IsWritten book today file repeats place written report next after =
     (earlier : List Batch) (b : Batch) → Stands file place earlier b
-    → (next ≡ judged book repeats place b .place) × (after ≡ over report (rowAt written) (rowBytes (judged book repeats place b .numbers)))
+    → (next ≡ judged book today repeats place b .place) × (after ≡ over report (rowAt written) (rowBytes (judged book today repeats place b .numbers)))
 
 -- the flags of the batches whose rows are to come stand in the room of those rows, a byte each, up to where the last will end
 unfoldable pub flagsAt : ℕ → ℕ → ℕ

@@ -1,6 +1,7 @@
 // The report of an accepted file (01 Report): the head and a row for each batch, each through its own part of the report.
 use batch::Row;
 use book::Book;
+use calendar::Today;
 use money::Amount;
 use record::Line;
 use repeats::Numbering;
@@ -81,16 +82,17 @@ fn judge_next(
     ascii: bool,
     book: &[u8],
     shelves: Book,
+    today: Today,
     place: usize,
     repeats: bool,
 ) -> Judged
     requires { ⌜ Usable (now book) shelves × Opens (shown ascii (now file)) place ⌝ }
-    ensures { λ r. ⌜ IsJudged (listedAt (now (book .entry)) shelves) (shown ascii (now (file .entry))) repeats place r ⌝ }
+    ensures { λ r. ⌜ IsJudged (listedAt (now (book .entry)) shelves) today (shown ascii (now (file .entry))) repeats place r ⌝ }
 {
     let number = place + 1;
     let first = Line { number, ascii };
     let at = place * 850;
-    let row = batch::judge_batch(book, shelves, &file[at..], first, repeats);
+    let row = batch::judge_batch(book, shelves, today, &file[at..], first, repeats);
     let numbers = batch_numbers(row);
     let after = place + row.records;
     Judged {
@@ -105,22 +107,23 @@ fn write_next(
     ascii: bool,
     book: &[u8],
     shelves: Book,
+    today: Today,
     place: usize,
     repeats: bool,
     written: usize,
     report: &mut [u8],
 ) -> usize
     requires { ⌜ Usable (now book) shelves × Opens (shown ascii (now file)) place × (written < 65536) × (rowAt written + 64 ≤ length (now report)) ⌝ }
-    ensures { λ r. ⌜ IsWritten (listedAt (now (book .entry)) shelves) (shown ascii (now (file .entry))) repeats place written (now (report .entry)) r (now (report .exit)) ⌝ }
+    ensures { λ r. ⌜ IsWritten (listedAt (now (book .entry)) shelves) today (shown ascii (now (file .entry))) repeats place written (now (report .entry)) r (now (report .exit)) ⌝ }
 {
-    let judged = judge_next(file, ascii, book, shelves, place, repeats);
+    let judged = judge_next(file, ascii, book, shelves, today, place, repeats);
     let numbers = judged.numbers;
     let at = report::row_at(written);
     report::write_row(report, at, numbers);
     judged.place
 }
 
-// Writes the report of a file that nests, ASCII or not (01 Report): the head, then a row for each batch in file order, rejected or not. No byte past the
+// Writes the report of a file that nests, ASCII or not, today being lent or not (01 Report): the head, then a row for each batch in file order, rejected or not. No byte past the
 // last row is touched. The first batch stands apart: a function that is called in two places keeps a frame of its own, so that the table of the schedule
 // numbers is on the stack only while it is used, and not while a batch is walked.
 pub fn write_rows(
@@ -128,20 +131,31 @@ pub fn write_rows(
     ascii: bool,
     book: &[u8],
     shelves: Book,
+    today: Today,
     payments: usize,
     total: Amount,
     batches: usize,
     report: &mut [u8],
 )
     requires { ⌜ Usable (now book) shelves × Writable (shown ascii (now file)) payments total batches (now report) ⌝ }
-    ensures { λ r. ⌜ Written (listedAt (now (book .entry)) shelves) (shown ascii (now (file .entry))) (now (report .entry)) (now (report .exit)) ⌝ }
+    ensures { λ r. ⌜ Written (listedAt (now (book .entry)) shelves) today (shown ascii (now (file .entry))) (now (report .entry)) (now (report .exit)) ⌝ }
 {
     let records = file.len() / 850;
     let head = head_numbers(records, payments, total, batches);
     report::write_row(report, 0, head);
     let none: [u8; 14] = [0; 14];
     let opened = number_next(file, ascii, 1, none, false, batches, 0, report);
-    let mut place = write_next(file, ascii, book, shelves, 1, opened.repeats, 0, report);
+    let mut place = write_next(
+        file,
+        ascii,
+        book,
+        shelves,
+        today,
+        1,
+        opened.repeats,
+        0,
+        report,
+    );
     let mut greatest = opened.greatest;
     let mut marked = opened.marked;
     let mut written: usize = 1;
@@ -161,6 +175,7 @@ pub fn write_rows(
             ascii,
             book,
             shelves,
+            today,
             place,
             number.repeats,
             written,

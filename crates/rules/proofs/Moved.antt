@@ -34,8 +34,9 @@ module _ (c : Context) (rec other : List ℕ) (b : Beside rec other) where
   same-reason Test.Digits v = refl
   same-reason Test.NoBlank v = refl
   same-reason Test.Dashed v = refl
-  same-reason Test.Plain v = refl
-  same-reason Test.Month v = refl
+  same-reason Test.Created v = refl
+  same-reason Test.Accounting v = refl
+  same-reason Test.Issued v = refl
   same-reason Test.Routing v = refl
   same-reason (Test.Listed values) v = refl
   same-reason (Test.IfListed values) v = refl

@@ -15,7 +15,7 @@ use Rattle.money.specs.Money.{worth, Whole}
 use Rattle.reasons.specs.declared.Finding.{Finding}
 use Rattle.reasons.specs.Findings.{found}
 use Rattle.reasons.specs.Lists.{voucherForms, courtesyChecks, voidedChecks, businessFunctions, transactionCodes, payerMechanisms, entryClasses}
-use Rattle.reasons.specs.Reasons.{required, number, unbroken, dashedDay, plainDay, monthAndYear, routingNumber, listed, ifListed, ifCoded, ifPostal, ifNumber, inBook, ifInBook, positive, checkAmount, checkSymbol, numberIs, amountIs, unrepeated, composed}
+use Rattle.reasons.specs.Reasons.{required, number, unbroken, dashedDay, creationDay, accountingMonth, issueDay, routingNumber, listed, ifListed, ifCoded, ifPostal, ifNumber, inBook, ifInBook, positive, checkAmount, checkSymbol, numberIs, amountIs, unrepeated, composed}
 use Rattle.rules.specs.declared.Codes.{Codes}
 use Rattle.rules.specs.declared.Context.{Context}
 
@@ -43,8 +43,9 @@ pub data Test : Type 0 where
   Digits : Test
   NoBlank : Test  -- field 7
   Dashed : Test  -- a date CCYY-MM-DD
-  Plain : Test  -- a date YYYYMMDD
-  Month : Test  -- MMYY, field 20
+  Created : Test  -- a date YYYYMMDD, not after today (02 W4)
+  Accounting : Test  -- MMYY, neither too far ahead nor too far back
+  Issued : Test  -- a date YYYYMMDD in the accounting month, neither too old nor too far ahead
   Routing : Test
   Listed : List (List ℕ) → Test
   IfListed : List (List ℕ) → Test  -- if filled
@@ -109,10 +110,10 @@ header =
     ∷ rule 14 agencyLocationCode noCheck (InBook Locations)
     ∷ rule 15 disbursingOfficeSymbol check Digits
     ∷ rule 16 isCourtesyCheck check (Listed courtesyChecks)
-    ∷ rule 17 checkBatchCreationDate check Plain
+    ∷ rule 17 checkBatchCreationDate check Created
     ∷ rule 18 checkSymbolNumber check Symbol
     ∷ rule 19 checkFirstSerialNumber check Digits
-    ∷ rule 20 checkAccountingMonthAndYear check Month
+    ∷ rule 20 checkAccountingMonthAndYear check Accounting
     ∷ []
 
 -- 01 Detail
@@ -139,7 +140,7 @@ detail =
     ∷ rule 55 originalPaymentId (A ∷ []) Required
     ∷ rule 56 originalSummaryDate (A ∷ []) Dashed
     ∷ rule 58 checkSerialNumber check Serial
-    ∷ rule 59 checkIssueDate check Plain
+    ∷ rule 59 checkIssueDate check Issued
     ∷ rule 62 standardEntryClassCode (N ∷ []) (Listed entryClasses)
     ∷ []
 
@@ -174,8 +175,9 @@ reason c rec Required v = required v
 reason c rec Digits v = number v
 reason c rec NoBlank v = unbroken v
 reason c rec Dashed v = dashedDay v
-reason c rec Plain v = plainDay v
-reason c rec Month v = monthAndYear v
+reason c rec Created v = creationDay (c .today) v
+reason c rec Accounting v = accountingMonth (c .today) v
+reason c rec Issued v = issueDay (c .today) (c .month) v
 reason c rec Routing v = routingNumber v
 reason c rec (Listed values) v = listed values v
 reason c rec (IfListed values) v = ifListed values v

@@ -3,6 +3,7 @@ use crate::Context;
 use reasons::Finding;
 use reasons::amounts;
 use reasons::checks;
+use reasons::dates;
 use reasons::lists;
 use reasons::lookups;
 use reasons::values;
@@ -139,12 +140,14 @@ fn end_c(known: Finding, rec: &[u8], line: Line, context: Context) -> Finding
     ensures { λ r. ⌜ r ≡ after known (findings context (line .number) (seen line (now (rec .entry))) (rows 42 62 C detail)) ⌝ }
 {
     let codes = context.codes;
+    let today = context.today;
+    let month = context.month;
     let wanted = context.serial + context.payments;
     let reason_52 = lookups::if_in_book(rec, line, ORIGINAL_CURRENCY_CODE, codes.currencies);
     let after_52 = reasons::note(known, reason_52, line.number, 52);
     let reason_58 = checks::number_is(rec, line, CHECK_SERIAL_NUMBER, wanted, 7);
     let after_58 = reasons::note(after_52, reason_58, line.number, 58);
-    let reason_59 = values::plain_day(rec, line, CHECK_ISSUE_DATE);
+    let reason_59 = dates::issue_day(rec, line, CHECK_ISSUE_DATE, today, month);
     reasons::note(after_58, reason_59, line.number, 59)
 }
 

@@ -2,6 +2,7 @@
 use crate::Context;
 use reasons::Finding;
 use reasons::checks;
+use reasons::dates;
 use reasons::lists;
 use reasons::lookups;
 use reasons::values;
@@ -76,6 +77,7 @@ fn start_c(known: Finding, rec: &[u8], line: Line, context: Context) -> Finding
     ensures { λ r. ⌜ r ≡ after known (findings context (line .number) (seen line (now (rec .entry))) (rows 6 17 C header)) ⌝ }
 {
     let symbol = crate::symbol_of(rec, line);
+    let today = context.today;
     let reason_6 = checks::composed(
         rec,
         line,
@@ -89,7 +91,7 @@ fn start_c(known: Finding, rec: &[u8], line: Line, context: Context) -> Finding
     let after_15 = reasons::note(after_6, reason_15, line.number, 15);
     let reason_16 = lists::courtesy_check(rec, line, IS_COURTESY_CHECK);
     let after_16 = reasons::note(after_15, reason_16, line.number, 16);
-    let reason_17 = values::plain_day(rec, line, CHECK_BATCH_CREATION_DATE);
+    let reason_17 = dates::creation_day(rec, line, CHECK_BATCH_CREATION_DATE, today);
     reasons::note(after_16, reason_17, line.number, 17)
 }
 
@@ -98,11 +100,12 @@ fn end_c(known: Finding, rec: &[u8], line: Line, context: Context) -> Finding
     requires { ⌜ (length (now rec) ≡ 850) × Kept context ⌝ }
     ensures { λ r. ⌜ r ≡ after known (findings context (line .number) (seen line (now (rec .entry))) (rows 18 20 C header)) ⌝ }
 {
+    let today = context.today;
     let reason_18 = checks::check_symbol(rec, line, CHECK_SYMBOL_NUMBER);
     let after_18 = reasons::note(known, reason_18, line.number, 18);
     let reason_19 = values::number(rec, line, CHECK_FIRST_SERIAL_NUMBER);
     let after_19 = reasons::note(after_18, reason_19, line.number, 19);
-    let reason_20 = values::month_and_year(rec, line, CHECK_ACCOUNTING_MONTH_AND_YEAR);
+    let reason_20 = dates::accounting_month(rec, line, CHECK_ACCOUNTING_MONTH_AND_YEAR, today);
     reasons::note(after_19, reason_20, line.number, 20)
 }
 

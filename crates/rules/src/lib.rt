@@ -3,6 +3,8 @@ pub mod detail;
 pub mod header;
 pub mod others;
 
+use calendar::Month;
+use calendar::Today;
 use money::Amount;
 use record::Line;
 use record::layout::CHECK_SYMBOL_NUMBER;
@@ -22,15 +24,18 @@ pub struct Codes {
 }
 
 // What the rules of a record need to know beside the record: whether its number repeats an earlier one, whether the payer is a CARS
-// Reporter, what was looked up, the header's check symbol and first serial number, the payments before this record and their total.
+// Reporter, what was looked up, the header's check symbol, first serial number and accounting month, the payments before this record and
+// their total; and today, where it is lent.
 pub struct Context {
     pub repeats: bool,
     pub reporter: bool,
     pub codes: Codes,
     pub symbol: [u8; 4],
     pub serial: u64,
+    pub month: Month,
     pub payments: u64,
     pub total: Amount,
+    pub today: Today,
 }
 
 // A header's check symbol (field 18).

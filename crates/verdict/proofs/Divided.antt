@@ -11,6 +11,7 @@ use Rattle.page.specs.CodePage.{shown}
 use Rattle.page.proofs.Shown.{shown-length}
 use Rattle.money.specs.Money.{worth, Whole}
 use Rattle.money.proofs.Amounts.{worth-split, whole-of}
+use Rattle.calendar.specs.Clock.{lendable}
 use Rattle.book.specs.Book.{placed, listedAt, Usable}
 use Rattle.book.specs.Book.Opened.{sound}
 use Rattle.book.proofs.Chains.{usable}
@@ -21,10 +22,10 @@ use Rattle.nesting.proofs.Cuts.{from-seen}
 use Rattle.characters.specs.Characters.{clean, firstUnclean}
 use Rattle.report.specs.Rows.{roomFor}
 use Rattle.verdict.specs.declared.Verdict.{Verdict}
-use Rattle.verdict.specs.Answer.{numberOf, refusal, acceptance, Judgement}
+use Rattle.verdict.specs.Answer.{numberOf, refusal, acceptance}
 use Rattle.verdict.specs.Answer.Reason.{ReportShort, LowByte}
 use Rattle.verdict.specs.Answer.Judgement.{refused}
-use Rattle.verdict.specs.Order.{refusalBy, headerReason, trailerReason, fromTrailer, fromHeader, Known, Clear, Framed}
+use Rattle.verdict.specs.Order.{refusalBy, headerReason, trailerReason, fromTrailer, fromHeader, Known, Clear, Framed, Roomed}
 use Rattle.verdict.proofs.Ends.{count-of, batches-few, header-first, trailer-last}
 use Rattle.verdict.proofs.Tests.{clear-next, given, Tested, clear-by, refused-by}
 use Rattle.verdict.proofs.Answers.{of-these, of-others, known-clear, header-tested, trailer-tested, accepted-as}
@@ -67,24 +68,29 @@ module _ (file book : List ℕ) (v : Verdict) (k : Known file book v) where
     room-is : wanted ≡ roomFor (length (d .batches))
     room-is = w ∙ ap roomFor batched
 
-    pub short : room < wanted → (u : Verdict) → u ≡ refusalBy (numberOf ReportShort) 0 → Judgement file book room u
+    pub short : room < wanted → (u : Verdict) → u ≡ refusalBy (numberOf ReportShort) 0 → Roomed file book room u
     unfolding refusalBy refusal
     short l u q =
-        let o = of-these file book room v k (λ c e. room < roomFor (length (e .batches))) (rw (← room-is) l) in
-        rw q (refused ReportShort 0 (given file book room ReportShort 0 (known-clear file book room v k) o refl))
+        record {
+          judged = λ today lent.
+              let o = of-these file book today room v k (λ c e. room < roomFor (length (e .batches))) (rw (← room-is) l) in
+              rw q (refused ReportShort 0 (given file book today room ReportShort 0 (known-clear file book today room v k lent) o refl));
+        }
 
     module _ (l : wanted ≤ room) (n : ℕ) (e : n ≡ firstUnclean 1 (records file)) where
-      long-clear : Clear file book room (LowByte ∷ fromHeader)
-      long-clear =
-          clear-next file book room ReportShort (known-clear file book room v k)
-          (λ o. omega (arith, l, room-is, of-others file book room v k (λ c e. room < roomFor (length (e .batches))) o))
+      long-clear : (today : List ℕ) → lendable today ≡ true → Clear file book today room (LowByte ∷ fromHeader)
+      long-clear today lent =
+          clear-next file book today room ReportShort (known-clear file book today room v k lent)
+          (λ o. omega (arith, l, room-is, of-others file book today room v k (λ c e. room < roomFor (length (e .batches))) o))
 
-      pub low : (n ≡ 0 → ⊥) → (u : Verdict) → u ≡ refusalBy (numberOf LowByte) n → Judgement file book room u
+      pub low : (n ≡ 0 → ⊥) → (u : Verdict) → u ≡ refusalBy (numberOf LowByte) n → Roomed file book room u
       unfolding refusalBy refusal
-      low f u q = rw q (refused LowByte n (given file book room LowByte n long-clear (λ z. f (e ∙ z)) e))
+      low f u q =
+          record { judged = λ today lent. rw q (refused LowByte n (given file book today room LowByte n (long-clear today lent) (λ z. f (e ∙ z)) e)) }
 
-      pub onward : n ≡ 0 → (u : Verdict) → Framed file book u → Judgement file book room u
-      onward z u f = f .judged room (clear-next file book room LowByte long-clear (λ n. n (sym e ∙ z)))
+      pub onward : n ≡ 0 → (u : Verdict) → Framed file book u → Roomed file book room u
+      onward z u f =
+          record { judged = λ today lent. f .judged today room (clear-next file book today room LowByte (long-clear today lent) (λ n. n (sym e ∙ z))) }
 
   pub unclean-small : (n : ℕ) → n ≡ firstUnclean 1 (records file) → n ≤ 65536
   unclean-small n e = omega (arith, e, unclean-few 1 (records file), count-of file, k .cuttable .few)
@@ -105,12 +111,12 @@ module _ (ascii : Bool) (sent book : List ℕ) (v : Verdict) (k : Known (shown a
   header-is = from-seen ascii sent 1 0 ∙ header-first file (k .cuttable) (k .division) (k .divided)
 
   module _ (h : ℕ) (e : h ≡ headerReason (listedAt book (v .shelves)) (shown ascii (take 850 sent))) where
-    header-read : (room : ℕ) → Clear file book room fromHeader → Tested file book room fromTrailer 1 h
-    header-read room c =
-        subst (λ (r : ℕ). Tested file book room fromTrailer 1 r) (sym (e ∙ ap (headerReason (listedAt book (v .shelves))) header-is)) (header-tested file book room v k c)
+    header-read : (today : List ℕ) (room : ℕ) → Clear file book today room fromHeader → Tested file book today room fromTrailer 1 h
+    header-read today room c =
+        subst (λ (r : ℕ). Tested file book today room fromTrailer 1 r) (sym (e ∙ ap (headerReason (listedAt book (v .shelves))) header-is)) (header-tested file book today room v k c)
 
     pub header-refused : (h ≡ 0 → ⊥) → (u : Verdict) → u ≡ refusalBy h 1 → Framed file book u
-    header-refused n u q = record { judged = λ room c. rw q (refused-by file book room (header-read room c) n) }
+    header-refused n u q = record { judged = λ today room c. rw q (refused-by file book today room (header-read today room c) n) }
 
     -- FT, as it is handed on
     abbrev last : List ℕ
@@ -123,15 +129,15 @@ module _ (ascii : Bool) (sent book : List ℕ) (v : Verdict) (k : Known (shown a
         rw n (rw m at (from-seen ascii sent 1 (length sent - 850)) ∙ rw (← shown-length ascii sent) (trailer-last file (k .cuttable) (k .division) (k .divided)))
 
     module _ (z : h ≡ 0) (t : ℕ) (f : t ≡ trailerReason (length sent / 850) (v .payments) (worth (v .total)) (shown ascii last)) where
-      trailer-read : (room : ℕ) → Clear file book room fromHeader → Tested file book room [] (length file / 850) t
+      trailer-read : (today : List ℕ) (room : ℕ) → Clear file book today room fromHeader → Tested file book today room [] (length file / 850) t
       unfolding acceptance
-      trailer-read room c =
+      trailer-read today room c =
           let w : worth (v .total) ≡ paidByAll (k .division .batches) = ap (λ (u : Verdict). worth (u .total)) (k .accepts) ∙ worth-split _ in
           let g = rw (w, trailer-is, ← shown-length ascii sent) at f in
-          rw g (trailer-tested file book room v k (clear-by file book room (header-read room c) z))
+          rw g (trailer-tested file book today room v k (clear-by file book today room (header-read today room c) z))
 
       pub trailer-refused : (t ≡ 0 → ⊥) → (u : Verdict) → u ≡ refusalBy t (length sent / 850) → Framed file book u
-      trailer-refused n u q = record { judged = λ room c. rw (q, ← shown-length ascii sent) (refused-by file book room (trailer-read room c) n) }
+      trailer-refused n u q = record { judged = λ today room c. rw (q, ← shown-length ascii sent) (refused-by file book today room (trailer-read today room c) n) }
 
       pub all-passed : t ≡ 0 → Framed file book v
-      all-passed o = record { judged = λ room c. accepted-as file book room v k (clear-by file book room (trailer-read room c) o) }
+      all-passed o = record { judged = λ today room c. accepted-as file book today room v k (clear-by file book today room (trailer-read today room c) o) }

@@ -18,21 +18,21 @@ use Rattle.nesting.specs.Division.{Record}
 use Rattle.verdict.specs.Answer.{numberOf}
 use Rattle.verdict.specs.Order.{lengthReason, headerReason, numberedIn, trailerReason}
 
--- no reason has a number above 13
-small : (t : Bool) (a b : ℕ) → a ≤ 13 → b ≤ 13 → choose t a b ≤ 13
+-- no reason has a number above 14
+small : (t : Bool) (a b : ℕ) → a ≤ 14 → b ≤ 14 → choose t a b ≤ 14
 unfolding choose
 small true a b p q = p
 small false a b p q = q
 
-pub length-small : (r n : ℕ) → r ≡ lengthReason n → r ≤ 13
+pub length-small : (r n : ℕ) → r ≡ lengthReason n → r ≤ 14
 unfolding lengthReason numberOf
 length-small r n e = rw e (small _ 1 _ (omega arith) (small _ _ 2 (small _ 3 0 (omega arith) (omega arith)) (omega arith)))
 
-pub header-small : (r : ℕ) (c : Contents) (h : Record) → r ≡ headerReason c h → r ≤ 13
+pub header-small : (r : ℕ) (c : Contents) (h : Record) → r ≡ headerReason c h → r ≤ 14
 unfolding headerReason numberOf
 header-small r c h e = rw e (small _ 8 _ (omega arith) (small _ 0 9 (omega arith) (omega arith)))
 
-pub trailer-small : (r n p a : ℕ) (t : Record) → r ≡ trailerReason n p a t → r ≤ 13
+pub trailer-small : (r n p a : ℕ) (t : Record) → r ≡ trailerReason n p a t → r ≤ 14
 unfolding trailerReason numberOf
 trailer-small r n p a t e =
     rw e (small _ _ 10 (small _ _ 11 (small _ _ 12 (small _ 0 13 (omega arith) (omega arith)) (omega arith)) (omega arith)) (omega arith))

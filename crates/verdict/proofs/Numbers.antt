@@ -9,12 +9,12 @@ use lib.Dec.{eqb}
 use lib.ListN.{getD}
 use Rattle.record.specs.Choice.{_or_}
 use Rattle.verdict.specs.Answer.{Reason, numberOf, stated}
-use Rattle.verdict.specs.Answer.Reason.{Empty, Ragged, TooLong, BookUnsound, Nesting, ReportShort, LowByte, InputSystem, Version, TrailerDigits, RecordCount, PaymentCount, TotalAmount}
+use Rattle.verdict.specs.Answer.Reason.{Empty, Ragged, TooLong, BookUnsound, NoDay, Nesting, ReportShort, LowByte, InputSystem, Version, TrailerDigits, RecordCount, PaymentCount, TotalAmount}
 
 -- the reasons in the order of their numbers
 reasons : List Reason
 reasons =
-    Empty ∷ Ragged ∷ TooLong ∷ BookUnsound ∷ Nesting ∷ ReportShort ∷ LowByte ∷ InputSystem ∷ Version ∷ TrailerDigits ∷ RecordCount ∷ PaymentCount ∷ TotalAmount ∷ []
+    Empty ∷ Ragged ∷ TooLong ∷ BookUnsound ∷ Nesting ∷ ReportShort ∷ LowByte ∷ InputSystem ∷ Version ∷ TrailerDigits ∷ RecordCount ∷ PaymentCount ∷ TotalAmount ∷ NoDay ∷ []
 
 -- the reason of a number
 reasonOf : ℕ → Reason
@@ -36,6 +36,7 @@ numbered Empty = record { from = omega arith; back = refl; listed = refl }
 numbered Ragged = record { from = omega arith; back = refl; listed = refl }
 numbered TooLong = record { from = omega arith; back = refl; listed = refl }
 numbered BookUnsound = record { from = omega arith; back = refl; listed = refl }
+numbered NoDay = record { from = omega arith; back = refl; listed = refl }
 numbered Nesting = record { from = omega arith; back = refl; listed = refl }
 numbered ReportShort = record { from = omega arith; back = refl; listed = refl }
 numbered LowByte = record { from = omega arith; back = refl; listed = refl }

@@ -1,12 +1,14 @@
 -- The tests before the report's room, and what they leave.
 -- Assumes nothing.
-use mathlib.Core.Path.{_≡_, refl, sym}
-use mathlib.Core.Bool.{Bool, true, false, true≢false}
+use mathlib.Core.Path.{_≡_, refl, sym, _∙_}
+use mathlib.Core.Bool.{Bool, true, false, not, true≢false}
 use mathlib.Core.List.{List, _∷_}
 use Prim.Native.Nat.{ℕ, _≤_}
 use native.Mathlib.Omega.{arith}
 use lib.ListN.{length}
+use borrow.Author.Tests.{not-false}
 use Rattle.money.specs.Money.{split}
+use Rattle.calendar.specs.Clock.{lendable}
 use Rattle.page.specs.CodePage.{shown}
 use Rattle.page.proofs.Shown.{shown-length}
 use Rattle.book.specs.declared.Book.{Book}
@@ -22,9 +24,9 @@ use Rattle.survey.specs.declared.Survey.{Survey}
 use Rattle.survey.specs.Survey.{Surveyed}
 use Rattle.verdict.specs.declared.Verdict.{Verdict}
 use Rattle.verdict.specs.Answer.{numberOf, refusal, acceptance, Judgement}
-use Rattle.verdict.specs.Answer.Reason.{BookUnsound, Nesting}
+use Rattle.verdict.specs.Answer.Reason.{BookUnsound, NoDay, Nesting}
 use Rattle.verdict.specs.Answer.Judgement.{refused}
-use Rattle.verdict.specs.Order.{refusalBy, lengthReason, fromRoom, fromBook, Known, Clear}
+use Rattle.verdict.specs.Order.{refusalBy, lengthReason, fromRoom, fromBook, Known, Clear, Roomed}
 use Rattle.verdict.proofs.Ends.{count-of}
 use Rattle.verdict.proofs.Tests.{clear-next, given, Tested, clear-by, refused-by, lengths, cuttable}
 
@@ -61,41 +63,56 @@ nests : (file : List ℕ) (t : Survey) → Surveyed file t → (b p : ℕ) → t
 nests file t (Surveyed.legal d h) b p e = record { division = d; divided = h; batched = cc; paid = cc; unclean = refl; summed = refl }
 nests file t (Surveyed.refused k r) b p e = absurd (true≢false (cc))
 
+-- what holds whatever is lent for today holds of what is lent
+pub roomed : (file book today : List ℕ) (room : ℕ) (v : Verdict) (a : Bool) → a ≡ lendable today → not a ≡ false → Roomed file book room v → Judgement file book today room v
+roomed file book today room v a e n r = r .judged today (sym e ∙ not-false a n)
+
 -- any file, ASCII or not, and any book
-module _ (ascii : Bool) (sent book : List ℕ) (room u : ℕ) (e : u ≡ lengthReason (length sent)) where
+module _ (ascii : Bool) (sent book today : List ℕ) (room u : ℕ) (e : u ≡ lengthReason (length sent)) where
   abbrev file : List ℕ
   file = shown ascii sent
 
-  length-read : Tested file book room fromBook 0 u
-  length-read = rw (e, ← shown-length ascii sent) (lengths file book room)
+  length-read : Tested file book today room fromBook 0 u
+  length-read = rw (e, ← shown-length ascii sent) (lengths file book today room)
 
-  pub unfit : (u ≡ 0 → ⊥) → (v : Verdict) → v ≡ refusalBy u 0 → Judgement file book room v
-  unfit n v q = rw q (refused-by file book room length-read n)
+  pub unfit : (u ≡ 0 → ⊥) → (v : Verdict) → v ≡ refusalBy u 0 → Judgement file book today room v
+  unfit n v q = rw q (refused-by file book today room length-read n)
 
   module _ (z : u ≡ 0) where
-    fit : Clear file book room fromBook
-    fit = clear-by file book room length-read z
+    fit : Clear file book today room fromBook
+    fit = clear-by file book today room length-read z
 
     fit-cuttable : Cuttable file
-    fit-cuttable = cuttable file book room fit
+    fit-cuttable = cuttable file book today room fit
 
     pub sent-cuttable : Cuttable sent
     sent-cuttable = record { whole = rw (← shown-length ascii sent) (fit-cuttable .whole); few = rw (← shown-length ascii sent) (fit-cuttable .few) }
 
-    pub bookless : (s : Book) → Opened book s → s .sound ≡ false → (v : Verdict) → v ≡ refusalBy (numberOf BookUnsound) 0 → Judgement file book room v
+    pub bookless : (s : Book) → Opened book s → s .sound ≡ false → (v : Verdict) → v ≡ refusalBy (numberOf BookUnsound) 0 → Judgement file book today room v
     unfolding refusalBy refusal
-    bookless s o n v q = rw q (refused BookUnsound 0 (given file book room BookUnsound 0 fit (no-contents book s o n) refl))
+    bookless s o n v q = rw q (refused BookUnsound 0 (given file book today room BookUnsound 0 fit (no-contents book s o n) refl))
 
     module _ (s : Book) (o : Opened book s) (y : s .sound ≡ true) where
-      sound-clear : Clear file book room (Nesting ∷ fromRoom)
-      sound-clear = let f = some-contents book s o y in clear-next file book room BookUnsound fit (λ n. n (f .contents) (f .lists))
+      sound-clear : Clear file book today room (NoDay ∷ Nesting ∷ fromRoom)
+      sound-clear = let f = some-contents book s o y in clear-next file book today room BookUnsound fit (λ n. n (f .contents) (f .lists))
+
+      -- what is lent for today
+      module _ (a : Bool) (lent : a ≡ lendable today) where
+        pub dayless : a ≡ false → (v : Verdict) → v ≡ refusalBy (numberOf NoDay) 0 → Judgement file book today room v
+        unfolding refusalBy refusal
+        dayless n v q = rw q (refused NoDay 0 (given file book today room NoDay 0 sound-clear (sym lent ∙ n) refl))
+
+        module _ (day : a ≡ true) where
+          pub unnested : (t : Survey) → Surveyed file t → (m : ℕ) → t .nested ≡ nested.Refused m → (v : Verdict) → v ≡ refusalBy (numberOf Nesting) m
+              → Judgement file book today room v
+          unfolding refusalBy refusal
+          unnested t g m e v q =
+              let r = refused-at file t g m e in
+              let c = clear-next file book today room NoDay sound-clear (λ f. true≢false (sym day ∙ lent ∙ f)) in
+              rw q (refused Nesting m (given file book today room Nesting m c (r .none) r))
 
       -- what the pass over the records found
       module _ (t : Survey) (g : Surveyed file t) where
-        pub unnested : (m : ℕ) → t .nested ≡ nested.Refused m → (v : Verdict) → v ≡ refusalBy (numberOf Nesting) m → Judgement file book room v
-        unfolding refusalBy refusal
-        unnested m e v q = let r = refused-at file t g m e in rw q (refused Nesting m (given file book room Nesting m sound-clear (r .none) r))
-
         pub named-small : (m : ℕ) → t .nested ≡ nested.Refused m → m ≤ 65536
         named-small m e = omega (arith, refused-at file t g m e .to, count-of file, fit-cuttable .few)
 

@@ -5,4 +5,4 @@ use Rattle.verdict.proofs.Theorems.{one-judgement}
 use Rattle.verdict.proofs.file_answer.Reads as file-answer
 
 pub file-answer-unique : OneResult file-answer.Post
-file-answer-unique κs a r s x y p q = one-judgement _ _ _ r s p q
+file-answer-unique κs a r s x y p q = one-judgement _ _ _ _ r s p q

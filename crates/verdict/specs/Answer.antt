@@ -10,6 +10,7 @@ use Rattle.record.specs.Value.{held}
 use Rattle.record.specs.Tests.{blank, digits, alike}
 use Rattle.record.specs.Numeral.{numeral}
 use Rattle.money.specs.Money.{split}
+use Rattle.calendar.specs.Clock.{lendable}
 use Rattle.book.specs.Book.{Contents, Lists, entryFor, isNone, placed, shut}
 use Rattle.nesting.specs.Division.{All, Division, DivisionOf, Divided, lines, paymentCount}
 use Rattle.nesting.specs.Paid.{paidByAll}
@@ -25,6 +26,7 @@ pub data Reason : Type 0 where
   Ragged : Reason
   TooLong : Reason
   BookUnsound : Reason
+  NoDay : Reason
   Nesting : Reason
   ReportShort : Reason
   LowByte : Reason
@@ -35,7 +37,7 @@ pub data Reason : Type 0 where
   PaymentCount : Reason
   TotalAmount : Reason
 
--- their numbers, for the answer (01 File answers)
+-- their numbers, for the answer (01 File answers; 02 W4: 14)
 unfoldable pub numberOf : Reason → ℕ
 numberOf Empty = 1
 numberOf Ragged = 2
@@ -50,11 +52,12 @@ numberOf TrailerDigits = 10
 numberOf RecordCount = 11
 numberOf PaymentCount = 12
 numberOf TotalAmount = 13
+numberOf NoDay = 14
 
--- the order in which they are tested (01 File answers)
+-- the order in which they are tested (01 File answers; 02 W4: 14 between 4 and 5)
 unfoldable pub stated : List Reason
 stated =
-    Empty ∷ Ragged ∷ TooLong ∷ BookUnsound ∷ Nesting ∷ ReportShort ∷ LowByte ∷ InputSystem ∷ Version ∷ TrailerDigits ∷ RecordCount ∷ PaymentCount ∷ TotalAmount ∷ []
+    Empty ∷ Ragged ∷ TooLong ∷ BookUnsound ∷ NoDay ∷ Nesting ∷ ReportShort ∷ LowByte ∷ InputSystem ∷ Version ∷ TrailerDigits ∷ RecordCount ∷ PaymentCount ∷ TotalAmount ∷ []
 
 -- 201 (01 File answers, 9)
 abbrev pub version201 : List ℕ
@@ -83,7 +86,7 @@ acceptance c d =
       total = split (paidByAll (d .batches));
     }
 
-module _ (file book : List ℕ) (room : ℕ) where
+module _ (file book today : List ℕ) (room : ℕ) where
   -- of the file's division, and of what the book lists
   pub record Of (P : Contents → Division → Type 0) : Type 0 where
     pub contents : Contents
@@ -98,6 +101,7 @@ module _ (file book : List ℕ) (room : ℕ) where
   Applies Ragged = length file % 850 ≡ 0 → ⊥
   Applies TooLong = 65535 * 850 < length file
   Applies BookUnsound = (c : Contents) → Lists book c → ⊥
+  Applies NoDay = lendable today ≡ false
   Applies Nesting = Divided (records file) → ⊥
   Applies ReportShort = Of (λ c d. room < roomFor (length (d .batches)))
   Applies LowByte = firstUnclean 1 (records file) ≡ 0 → ⊥
@@ -114,6 +118,7 @@ module _ (file book : List ℕ) (room : ℕ) where
   Names Ragged m = m ≡ 0
   Names TooLong m = m ≡ 0
   Names BookUnsound m = m ≡ 0
+  Names NoDay m = m ≡ 0
   Names Nesting m = RefusedAt (records file) m
   Names ReportShort m = m ≡ 0
   Names LowByte m = m ≡ firstUnclean 1 (records file)

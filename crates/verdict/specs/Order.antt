@@ -1,7 +1,7 @@
 -- The order in which the code tests. No promise to other crates rests on it: the proofs tie it to Answer.antt.
 use Prim.Native.Nat.{ℕ, _+_, _*_, _%_}
 use mathlib.Core.Path.{_≡_}
-use mathlib.Core.Bool.{Bool}
+use mathlib.Core.Bool.{Bool, true}
 use mathlib.Core.List.{List, [], _∷_, _++_}
 use lib.Dec.{eqb, ltb}
 use Rattle.record.specs.Choice.{_and_, choose}
@@ -10,12 +10,13 @@ use Rattle.record.specs.Value.{held}
 use Rattle.record.specs.Tests.{digits, alike}
 use Rattle.record.specs.Numeral.{numeral}
 use Rattle.money.specs.Money.{split, cents}
+use Rattle.calendar.specs.Clock.{lendable}
 use Rattle.book.specs.Book.{Contents, Lists, shut}
 use Rattle.nesting.specs.Division.{Record, Division, DivisionOf}
 use Rattle.nesting.specs.Records.{Cuttable, records}
 use Rattle.verdict.specs.declared.Verdict.{Verdict}
 use Rattle.verdict.specs.Answer.{Reason, numberOf, stated, strange, acceptance, NoneOf, Judgement, version201}
-use Rattle.verdict.specs.Answer.Reason.{Empty, Ragged, TooLong, BookUnsound, Nesting, ReportShort, LowByte, InputSystem, Version, TrailerDigits, RecordCount, PaymentCount, TotalAmount}
+use Rattle.verdict.specs.Answer.Reason.{Empty, Ragged, TooLong, BookUnsound, NoDay, Nesting, ReportShort, LowByte, InputSystem, Version, TrailerDigits, RecordCount, PaymentCount, TotalAmount}
 
 -- the refusal by its number
 unfoldable pub refusalBy : ℕ → ℕ → Verdict
@@ -57,7 +58,7 @@ abbrev pub fromRoom : List Reason
 fromRoom = ReportShort ∷ LowByte ∷ fromHeader
 
 abbrev pub fromBook : List Reason
-fromBook = BookUnsound ∷ Nesting ∷ fromRoom
+fromBook = BookUnsound ∷ NoDay ∷ Nesting ∷ fromRoom
 
 -- what the tests before the report's room leave: whole records with a division, a book that lists something, and what to answer if nothing more applies
 pub record Known (file book : List ℕ) (v : Verdict) : Type 0 where
@@ -69,11 +70,15 @@ pub record Known (file book : List ℕ) (v : Verdict) : Type 0 where
   pub accepts : v ≡ acceptance contents division
 
 -- only these are left: no reason that is stated before them applies
-pub record Clear (file book : List ℕ) (room : ℕ) (left : List Reason) : Type 0 where
+pub record Clear (file book today : List ℕ) (room : ℕ) (left : List Reason) : Type 0 where
   pub earlier : List Reason
   pub order : stated ≡ earlier ++ left
-  pub none : NoneOf file book room earlier
+  pub none : NoneOf file book today room earlier
 
--- the verdict where FH and FT are left, whatever the room
+-- the verdict where FH and FT are left, whatever is lent for today, and whatever the room
 pub record Framed (file book : List ℕ) (v : Verdict) : Type 0 where
-  pub judged : (room : ℕ) → Clear file book room fromHeader → Judgement file book room v
+  pub judged : (today : List ℕ) (room : ℕ) → Clear file book today room fromHeader → Judgement file book today room v
+
+-- the verdict where the report's room is left, whatever real day is lent, or nothing
+pub record Roomed (file book : List ℕ) (room : ℕ) (v : Verdict) : Type 0 where
+  pub judged : (today : List ℕ) → lendable today ≡ true → Judgement file book today room v

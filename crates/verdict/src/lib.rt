@@ -1,4 +1,4 @@
-// The answer about a file (01 File answers): thirteen tests in the stated order. Nothing is written.
+// The answer about a file (01 File answers): fourteen tests in the stated order. Nothing is written.
 mod frame;
 mod reason;
 
@@ -14,7 +14,7 @@ ghost use Rattle.book.specs.Book.{shut};
 ghost use Rattle.nesting.specs.Records.{records};
 ghost use Rattle.characters.specs.Characters.{firstUnclean};
 ghost use Rattle.verdict.specs.Answer.{Judgement};
-ghost use Rattle.verdict.specs.Order.{refusalBy, lengthReason, Known, Framed};
+ghost use Rattle.verdict.specs.Order.{refusalBy, lengthReason, Known, Framed, Roomed};
 
 // The returned number; and, of an accepted file, where the book's sections stand, its batches, its payments and their exact total.
 pub struct Verdict {
@@ -49,7 +49,7 @@ fn no_book() -> Book
 
 // A refusal: reason * 100,000 + record, and nothing else.
 fn refuse(reason: u64, record_number: usize) -> Verdict
-    requires { ⌜ (reason ≤ 13) × («record_number» ≤ 65536) ⌝ }
+    requires { ⌜ (reason ≤ 14) × («record_number» ≤ 65536) ⌝ }
     ensures { λ r. ⌜ r ≡ refusalBy reason «record_number» ⌝ }
 {
     let answer = reason * 100000 + record_number as u64;
@@ -114,7 +114,7 @@ fn judge_divided(
     accepted: Verdict,
 ) -> Verdict
     requires { ⌜ Known (shown ascii (now file)) (now book) accepted × (unclean ≡ firstUnclean 1 (records (shown ascii (now file)))) ⌝ }
-    ensures { λ r. ⌜ Judgement (shown ascii (now (file .entry))) (now (book .entry)) room r ⌝ }
+    ensures { λ r. ⌜ Roomed (shown ascii (now (file .entry))) (now (book .entry)) room r ⌝ }
 {
     let wanted = report::room_for(accepted.batches);
     if room < wanted {
@@ -126,9 +126,9 @@ fn judge_divided(
     judge_frame(file, ascii, book, accepted)
 }
 
-// The answer about a file, ASCII or not, and the room of a report, in document 01's order. Nothing is written.
-pub fn file_answer(file: &[u8], ascii: bool, book: &[u8], room: usize) -> Verdict
-    ensures { λ r. ⌜ Judgement (shown ascii (now (file .entry))) (now (book .entry)) room r ⌝ }
+// The answer about a file, ASCII or not, what is lent for today (02 W4), and the room of a report, in document 01's order. Nothing is written.
+pub fn file_answer(file: &[u8], ascii: bool, book: &[u8], today: &[u8], room: usize) -> Verdict
+    ensures { λ r. ⌜ Judgement (shown ascii (now (file .entry))) (now (book .entry)) (now (today .entry)) room r ⌝ }
 {
     let unfit = length_reason(file);
     if unfit != 0 {
@@ -137,6 +137,9 @@ pub fn file_answer(file: &[u8], ascii: bool, book: &[u8], room: usize) -> Verdic
     let shelves = book::reading::read_book(book);
     if !shelves.sound {
         return refuse(reason::BOOK_UNSOUND, 0);
+    }
+    if !calendar::clock::is_lendable(today) {
+        return refuse(reason::NO_DAY, 0);
     }
     let found = survey::survey_file(file, ascii);
     let nested = found.nested;

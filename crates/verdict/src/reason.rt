@@ -1,4 +1,4 @@
-// The reasons of a refusal by their numbers (01 File answers).
+// The reasons of a refusal by their numbers (01 File answers; 02 W4: 14).
 pub(crate) const EMPTY: u64 = 1;
 
 pub(crate) const RAGGED: u64 = 2;
@@ -24,3 +24,5 @@ pub(crate) const RECORD_COUNT: u64 = 11;
 pub(crate) const PAYMENT_COUNT: u64 = 12;
 
 pub(crate) const TOTAL_AMOUNT: u64 = 13;
+
+pub(crate) const NO_DAY: u64 = 14;

@@ -7,13 +7,13 @@ use Rattle.batch.proofs.judge_batch.Statement.{statement}
 use Rattle.batch.proofs.judge_batch.Tie as tie
 
 abbrev Inv-loop : tie.InvT-loop
-Inv-loop book shelves rest first repeats number row₀ told₀ again₀ row told again = Judging (listedAt book shelves) repeats (first .number) (seen first rest) row told again
+Inv-loop book shelves today rest first repeats number row₀ told₀ again₀ row told again = Judging (listedAt book shelves) today repeats (first .number) (seen first rest) row told again
 
 abbrev μ-loop : tie.MeasureT-loop
-μ-loop book shelves rest first repeats number row₀ told₀ again₀ row told again = walksLeft told again
+μ-loop book shelves today rest first repeats number row₀ told₀ again₀ row told again = walksLeft told again
 
 loop-holds : tie.Need-loop-holds Inv-loop μ-loop
-loop-holds c = judging-begun _ _ _
+loop-holds c = judging-begun _ _ _ _
 
 walk-batch-requires : tie.Need-walk-batch-requires Inv-loop μ-loop
 walk-batch-requires c κs = search needs
@@ -22,18 +22,18 @@ seek-requires : tie.Need-seek-requires Inv-loop μ-loop
 seek-requires c κs =
     let j = c .before .before .before .before .before .before .before .pre .1 in
     let e = c .before .before .walk-batch .ensures in
-    (sent-least _ _ _ (end-within _ _ _ j e), sent-most _ _ _ (rest-few _ _ _ j e), first-few _ _ _ j e)
+    (sent-least _ _ _ (end-within _ _ _ _ j e), sent-most _ _ _ (rest-few _ _ _ _ j e), first-few _ _ _ _ j e)
 
 row-of-requires : tie.Need-row-of-requires Inv-loop μ-loop
 row-of-requires c κs = search needs
 
 loop-less : tie.Need-loop-less Inv-loop μ-loop
 loop-less c =
-    judging-less _ _ _ (c .before .before .before .before .before .before .before .before .before .before .pre .1) (c .before .before .before .before .before .walk-batch .ensures) (c .before .before .before .before .before .before .before .loop .inv) (c .before .before .before .before .before .before .loop-test .taken) _ (c .before .before .seek .ensures)
+    judging-less _ _ _ _ (c .before .before .before .before .before .before .before .before .before .before .pre .1) (c .before .before .before .before .before .walk-batch .ensures) (c .before .before .before .before .before .before .before .loop .inv) (c .before .before .before .before .before .before .loop-test .taken) _ (c .before .before .seek .ensures)
 
 loop-again : tie.Need-loop-again Inv-loop μ-loop
 loop-again c =
-    judging-next _ _ _ (c .before .before .before .before .before .before .before .before .before .before .pre .1) (c .before .before .before .before .before .walk-batch .ensures) (c .before .before .before .before .before .before .before .loop .inv) (c .before .before .before .before .before .before .loop-test .taken) _ (c .before .before .seek .ensures)
+    judging-next _ _ _ _ (c .before .before .before .before .before .before .before .before .before .before .pre .1) (c .before .before .before .before .before .walk-batch .ensures) (c .before .before .before .before .before .before .before .loop .inv) (c .before .before .before .before .before .before .loop-test .taken) _ (c .before .before .seek .ensures)
     _ (c .before .row-of .ensures)
 
 returns : tie.Need-returns Inv-loop μ-loop

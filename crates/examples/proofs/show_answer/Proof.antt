@@ -10,11 +10,11 @@ marked-requires c κs = search needs
 array-borrow-prefix-report : tie.Need-array-borrow-prefix-report
 array-borrow-prefix-report c = search needs
 
-slice-aggregate-srf-judge : tie.Need-slice-aggregate-srf-judge
-slice-aggregate-srf-judge c = sym (length-take-le _ _ (search needs))
+slice-aggregate-srf-judge-with : tie.Need-slice-aggregate-srf-judge-with
+slice-aggregate-srf-judge-with c = sym (length-take-le _ _ (search needs))
 
-srf-judge-requires : tie.Need-srf-judge-requires
-srf-judge-requires c κs = search needs
+srf-judge-with-requires : tie.Need-srf-judge-with-requires
+srf-judge-with-requires c κs = search needs
 
 print-decimal-requires : tie.Need-print-decimal-requires
 print-decimal-requires c κs = search needs
@@ -49,8 +49,8 @@ show-answer-spec =
     (tie.spec
     marked-requires
     array-borrow-prefix-report
-    slice-aggregate-srf-judge
-    srf-judge-requires
+    slice-aggregate-srf-judge-with
+    srf-judge-with-requires
     print-decimal-requires
     slice-aggregate-write-all
     write-all-requires

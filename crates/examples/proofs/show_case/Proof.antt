@@ -7,14 +7,14 @@ use Rattle.examples.proofs.show_case.Tie as tie
 room-for-requires : tie.Need-room-for-requires
 room-for-requires c κs = search needs
 
-slice-aggregate-show-answer : tie.Need-slice-aggregate-show-answer
-slice-aggregate-show-answer c = sym (length-take-le _ _ (search needs))
+slice-aggregate-show-lent : tie.Need-slice-aggregate-show-lent
+slice-aggregate-show-lent c = sym (length-take-le _ _ (search needs))
 
-slice-aggregate-show-answer-2 : tie.Need-slice-aggregate-show-answer-2
-slice-aggregate-show-answer-2 c = sym (length-take-le _ _ (search needs))
+slice-aggregate-show-lent-2 : tie.Need-slice-aggregate-show-lent-2
+slice-aggregate-show-lent-2 c = sym (length-take-le _ _ (search needs))
 
-show-answer-requires : tie.Need-show-answer-requires
-show-answer-requires c κs = (search needs, search needs, rw (← c .before .before .before .before .before .before .before .room-for .ensures) (search needs))
+show-lent-requires : tie.Need-show-lent-requires
+show-lent-requires c κs = (search needs, search needs, rw (← c .before .before .before .before .before .before .before .room-for .ensures) (search needs))
 
 returns : tie.Need-returns
 returns c = search needs
@@ -27,8 +27,8 @@ show-case-spec =
     tie.close
     (tie.spec
     room-for-requires
-    slice-aggregate-show-answer
-    slice-aggregate-show-answer-2
-    show-answer-requires
+    slice-aggregate-show-lent
+    slice-aggregate-show-lent-2
+    show-lent-requires
     returns
     returns-2)

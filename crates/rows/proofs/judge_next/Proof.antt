@@ -26,12 +26,12 @@ batch-numbers-requires c κs = search needs
 
 add-after : tie.Need-add-after
 add-after c =
-    let h = ends-few _ _ (c .before .before .before .before .before .before .pre .1) _ _ _ (c .before .before .judge-batch .ensures) in
+    let h = ends-few _ _ (c .before .before .before .before .before .before .pre .1) _ _ _ _ (c .before .before .judge-batch .ensures) in
     search needs
 
 returns : tie.Need-returns
 returns c =
-    is-judged _ _ (c .before .before .before .before .before .before .pre .1) _ _ _ (c .before .before .judge-batch .ensures) _ (c .before .batch-numbers .ensures)
+    is-judged _ _ (c .before .before .before .before .before .before .pre .1) _ _ _ _ (c .before .before .judge-batch .ensures) _ (c .before .batch-numbers .ensures)
 
 pub judge-next-spec : {M : Type 1} → statement M
 judge-next-spec =

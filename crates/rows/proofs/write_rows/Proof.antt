@@ -10,11 +10,11 @@ use Rattle.rows.proofs.write_rows.Statement.{statement}
 use Rattle.rows.proofs.write_rows.Tie as tie
 
 abbrev Inv-loop : tie.InvT-loop
-Inv-loop file ascii book shelves payments batches report₀ records place₀ greatest₀ marked₀ written₀ report place greatest marked written =
-    Going (listedAt book shelves) (shown ascii file) payments batches report₀ report greatest marked place written
+Inv-loop file ascii book shelves today payments batches report₀ records place₀ greatest₀ marked₀ written₀ report place greatest marked written =
+    Going (listedAt book shelves) today (shown ascii file) payments batches report₀ report greatest marked place written
 
 abbrev μ-loop : tie.MeasureT-loop
-μ-loop file ascii book shelves payments batches report₀ records place₀ greatest₀ marked₀ written₀ report place greatest marked written =
+μ-loop file ascii book shelves today payments batches report₀ records place₀ greatest₀ marked₀ written₀ report place greatest marked written =
     batches - written
 
 head-numbers-requires : tie.Need-head-numbers-requires Inv-loop μ-loop
@@ -32,7 +32,7 @@ write-next-requires c κs = search (needs, first-opens, first-fits, shown-record
 loop-holds : tie.Need-loop-holds Inv-loop μ-loop
 loop-holds c =
     let n = c .before .before .before .before .before .before .before .number-next .ensures in
-    rebased (opened (c .before .before .before .before .before .before .before .before .before .before .before .before .before .before .before .before .before .pre .1) (shown-records _ _ _ refl) (c .before .before .before .before .before .before .before .before .before .before .before .before .before .head-numbers .ensures) (c .before .before .before .before .before .before .before .before .before .before .before .write-row .ensures) _ _ _ (n .0) (n .1) _ _ _ (c .before .before .before .write-next .ensures))
+    rebased (opened (c .before .before .before .before .before .before .before .before .before .before .before .before .before .before .before .before .before .pre .1) (shown-records _ _ _ refl) (c .before .before .before .before .before .before .before .before .before .before .before .before .before .head-numbers .ensures) (c .before .before .before .before .before .before .before .before .before .before .before .write-row .ensures) _ _ _ (n .0) (n .1) _ _ _ _ (c .before .before .before .write-next .ensures))
 
 number-next-requires-2 : tie.Need-number-next-requires-2 Inv-loop μ-loop
 number-next-requires-2 c κs = numberable (c .before .before .loop .inv) (c .before .loop-test .taken)
@@ -62,7 +62,7 @@ same-length c =
     let e = c .before .before .before .before .before .before .before .before .before .before .before .before .before .before .before .head-numbers .ensures in
     let p = c .before .before .before .before .before .before .before .before .before .before .before .before .before .write-row .ensures in
     let n = c .before .before .before .before .before .before .before .before .before .number-next .ensures in
-    let g = onward (opened w (shown-records _ _ _ refl) e p _ _ _ (n .0) (n .1) _ _ _ (c .before .before .before .before .before .write-next .ensures)) (c .before .loop .inv) in
+    let g = onward (opened w (shown-records _ _ _ refl) e p _ _ _ (n .0) (n .1) _ _ _ _ (c .before .before .before .before .before .write-next .ensures)) (c .before .loop .inv) in
     all-kept w (shown-records _ _ _ refl) e p g
 
 returns : tie.Need-returns Inv-loop μ-loop
@@ -71,7 +71,7 @@ returns c =
     let e = c .before .before .before .before .before .before .before .before .before .before .before .before .before .before .before .head-numbers .ensures in
     let p = c .before .before .before .before .before .before .before .before .before .before .before .before .before .write-row .ensures in
     let n = c .before .before .before .before .before .before .before .before .before .number-next .ensures in
-    let g = onward (opened w (shown-records _ _ _ refl) e p _ _ _ (n .0) (n .1) _ _ _ (c .before .before .before .before .before .write-next .ensures)) (c .before .loop .inv) in
+    let g = onward (opened w (shown-records _ _ _ refl) e p _ _ _ (n .0) (n .1) _ _ _ _ (c .before .before .before .before .before .write-next .ensures)) (c .before .loop .inv) in
     finished w (shown-records _ _ _ refl) e p g (search needs)
 
 pub write-rows-spec : {M : Type 1} → statement M

@@ -1,14 +1,14 @@
 use Rattle.record.proofs.CodeList.{code-read}
 use Prim.Native.Nat.{_-_}
 use Rattle.book.specs.Book.{listedAt}
-use Rattle.batch.proofs.Turns.{Passing, first-sent, passing-begun, walking, left, room-here, end-within, end-few, number-few, records-few, here-length, passing-less, passing-next}
+use Rattle.batch.proofs.Turns.{Passing, first-sent, passing-opened, passed, walking, left, room-here, end-within, end-few, number-few, records-few, here-length, passing-less, passing-next}
 use borrow.Author.Needs.{needs}
 use Rattle.batch.proofs.pass.walk_batch.Statement.{statement}
 use Rattle.batch.proofs.pass.walk_batch.Tie as tie
 
 abbrev Inv-loop : tie.InvT-loop
 Inv-loop book shelves rest first repeats told state₀ climbing₀ records₀ at₀ stop₀ state climbing records at stop =
-    Passing (listedAt book shelves) (first .ascii) rest (first .number) repeats told (record { state = state; climbing = climbing; records = records }) at stop
+    Passing (listedAt book shelves) (state₀ .header .today) (first .ascii) rest (first .number) repeats told (record { state = state; climbing = climbing; records = records }) at stop
 
 abbrev μ-loop : tie.MeasureT-loop
 μ-loop book shelves rest first repeats told state₀ climbing₀ records₀ at₀ stop₀ state climbing records at stop = stop - at
@@ -26,7 +26,7 @@ open-batch-requires : tie.Need-open-batch-requires Inv-loop μ-loop
 open-batch-requires c κs = search needs
 
 loop-holds : tie.Need-loop-holds Inv-loop μ-loop
-loop-holds c = passing-begun (c .before .before .before .before .pre .1) (c .open-batch .ensures)
+loop-holds c = passing-opened _ _ _ _ _ _ _ _ (c .open-batch .ensures) (c .before .before .before .before .pre .1)
 
 add-end : tie.Need-add-end Inv-loop μ-loop
 add-end c = let k = end-few (walking (c .before .loop .inv) (c .loop-test .taken)) (left (c .before .loop .inv) (c .loop-test .taken)) in search needs
@@ -94,7 +94,7 @@ loop-again c =
     (c .before .climb .ensures)
 
 returns : tie.Need-returns Inv-loop μ-loop
-returns c = c .before .loop .inv .done (c .loop-test .left)
+returns c = passed _ _ _ _ _ _ _ _ (c .before .before .open-batch .ensures) _ (c .before .loop .inv .done (c .loop-test .left))
 
 pub walk-batch-spec : {M : Type 1} → statement M
 walk-batch-spec =

@@ -13,8 +13,8 @@ location-only-requires c κs = search needs
 
 header-rules-requires : tie.Need-header-rules-requires
 header-rules-requires c κs =
-    let p = c .before .before .before .before .before .before .pre in
-    (p .1, kept-header _ _ _ _ _ _ _ _ _ (omega arith) (p .1) (c .before .before .before .read-header .ensures))
+    let p = c .before .before .before .before .before .before .before .pre in
+    (p .1, kept-header _ _ _ _ _ _ _ _ _ _ (omega arith) (p .1) (c .before .before .before .before .read-header .ensures))
 
 begin-requires : tie.Need-begin-requires
 begin-requires c κs = search needs

@@ -22,14 +22,17 @@ symbol-of-requires c κs = search needs
 first-serial-requires : tie.Need-first-serial-requires
 first-serial-requires c κs = search needs
 
+month-of-requires : tie.Need-month-of-requires
+month-of-requires c κs = search needs
+
 field-amount-requires : tie.Need-field-amount-requires
 field-amount-requires c κs = search needs
 
 returns : tie.Need-returns
 returns c =
-    head-read _ _ _ _ _ _ _ _ _ _ (code-read _ _ _ (c .before .before .before .before .before .before .code-bytes .ensures) (c .before .before .before .before .before .code-of .ensures))
-    (c .before .before .before .before .letter-in .ensures) (c .before .before .before .location .ensures)
-    (c .before .before .symbol-of .ensures) (c .before .first-serial .ensures) (c .field-amount .ensures)
+    head-read _ _ _ _ _ _ _ _ _ _ _ _ (code-read _ _ _ (c .before .before .before .before .before .before .before .code-bytes .ensures) (c .before .before .before .before .before .before .code-of .ensures))
+    (c .before .before .before .before .before .letter-in .ensures) (c .before .before .before .before .location .ensures)
+    (c .before .before .before .symbol-of .ensures) (c .before .before .first-serial .ensures) (c .before .month-of .ensures) (c .field-amount .ensures)
 
 pub read-header-spec : {M : Type 1} → statement M
 read-header-spec =
@@ -41,5 +44,6 @@ read-header-spec =
     location-requires
     symbol-of-requires
     first-serial-requires
+    month-of-requires
     field-amount-requires
     returns)

@@ -21,8 +21,8 @@ number-is-requires c κs = search needs
 note-requires-2 : tie.Need-note-requires-2
 note-requires-2 c κs = search needs
 
-plain-day-requires : tie.Need-plain-day-requires
-plain-day-requires c κs = search needs
+issue-day-requires : tie.Need-issue-day-requires
+issue-day-requires c κs = search needs
 
 note-requires-3 : tie.Need-note-requires-3
 note-requires-3 c κs = search needs
@@ -32,7 +32,7 @@ unfolding rows among findings reason inKind detail letterByte choose _and_ _or_
 returns c =
     more _ _ _ _ _ _ _ _ (c .before .before .before .before .note .ensures) (c .before .before .before .before .before .if-in-book .ensures)
     (more _ _ _ _ _ _ _ _ (c .before .before .note2 .ensures) (c .before .before .before .number-is .ensures)
-    (last _ _ _ _ _ _ (c .note3 .ensures) (c .before .plain-day .ensures)))
+    (last _ _ _ _ _ _ (c .note3 .ensures) (c .before .issue-day .ensures)))
 
 pub end-c-spec : {M : Type 1} → statement M
 end-c-spec =
@@ -43,6 +43,6 @@ end-c-spec =
     note-requires
     number-is-requires
     note-requires-2
-    plain-day-requires
+    issue-day-requires
     note-requires-3
     returns)

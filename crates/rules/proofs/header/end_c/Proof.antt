@@ -18,8 +18,8 @@ number-requires c κs = search needs
 note-requires-2 : tie.Need-note-requires-2
 note-requires-2 c κs = search needs
 
-month-and-year-requires : tie.Need-month-and-year-requires
-month-and-year-requires c κs = search needs
+accounting-month-requires : tie.Need-accounting-month-requires
+accounting-month-requires c κs = search needs
 
 note-requires-3 : tie.Need-note-requires-3
 note-requires-3 c κs = search needs
@@ -29,7 +29,7 @@ unfolding rows among findings reason header letterByte choose _and_ _or_
 returns c =
     more _ _ _ _ _ _ _ _ (c .before .before .before .before .note .ensures) (c .before .before .before .before .before .check-symbol .ensures)
     (more _ _ _ _ _ _ _ _ (c .before .before .note2 .ensures) (c .before .before .before .number .ensures)
-    (last _ _ _ _ _ _ (c .note3 .ensures) (c .before .month-and-year .ensures)))
+    (last _ _ _ _ _ _ (c .note3 .ensures) (c .before .accounting-month .ensures)))
 
 pub end-c-spec : {M : Type 1} → statement M
 end-c-spec =
@@ -39,6 +39,6 @@ end-c-spec =
     note-requires
     number-requires
     note-requires-2
-    month-and-year-requires
+    accounting-month-requires
     note-requires-3
     returns)

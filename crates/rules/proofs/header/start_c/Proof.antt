@@ -28,8 +28,8 @@ courtesy-check-requires c κs = search needs
 note-requires-3 : tie.Need-note-requires-3
 note-requires-3 c κs = search needs
 
-plain-day-requires : tie.Need-plain-day-requires
-plain-day-requires c κs = search needs
+creation-day-requires : tie.Need-creation-day-requires
+creation-day-requires c κs = search needs
 
 note-requires-4 : tie.Need-note-requires-4
 note-requires-4 c κs = search needs
@@ -40,7 +40,7 @@ returns c =
     more _ _ _ _ _ _ _ _ (c .before .before .before .before .before .before .note .ensures) (c .before .before .before .before .before .before .before .composed .ensures ∙ rw (c .before .before .before .before .before .before .before .before .symbol-of .ensures))
     (more _ _ _ _ _ _ _ _ (c .before .before .before .before .note2 .ensures) (c .before .before .before .before .before .number .ensures)
     (more _ _ _ _ _ _ _ _ (c .before .before .note3 .ensures) (c .before .before .before .courtesy-check .ensures)
-    (last _ _ _ _ _ _ (c .note4 .ensures) (c .before .plain-day .ensures))))
+    (last _ _ _ _ _ _ (c .note4 .ensures) (c .before .creation-day .ensures))))
 
 pub start-c-spec : {M : Type 1} → statement M
 start-c-spec =
@@ -53,6 +53,6 @@ start-c-spec =
     note-requires-2
     courtesy-check-requires
     note-requires-3
-    plain-day-requires
+    creation-day-requires
     note-requires-4
     returns)
