@@ -215,8 +215,8 @@ pub fn detail_rules(
         }
         _ => {
             let begun = start(known, rec, line, context);
-            let then = common(begun, rec, line, letter, context);
-            end(then, rec, line, letter, context)
+            let asked = common(begun, rec, line, letter, context);
+            end(asked, rec, line, letter, context)
         }
     }
 }
