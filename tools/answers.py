@@ -86,7 +86,7 @@ class Fun:
             at = chain[n:n + 1] + chain
             for p in at:
                 old, new = p[2][0], p[2][1]
-                if norm(old) == want or norm(new) == want:
+                if want in (norm(old), norm(new), norm(old) + "_lem", norm(new) + "_lem"):
                     return ".".join(["c", new] + parts[1:])
             self.left.append(f"{m.group(0)} at {place}")
             return ".".join(["c"] + parts)
@@ -204,7 +204,7 @@ def convert(folder, crate, path, info):
         out = []
         for u in lines:
             m = re.match(r"(use [\w.'+]+\.)\{(.*)\}$", u, re.S)
-            words = set(TOK.findall(body)) | set(re.findall(r"[^\w\s().,;]+", body))
+            words = set(TOK.findall(body)) | set(re.findall(r"[^\W\d][\w'₀-₉-]*", body)) | set(re.findall(r"[^\w\s().,;]+", body))
             if m:
                 keep = []
                 for n in re.split(r",\s*", m.group(2)):

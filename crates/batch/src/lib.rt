@@ -1,4 +1,6 @@
 // One batch over its records (01 Batch reasons, Sums, Report): one walk, nothing copied but a Payment ID that rises, one row.
+#![tactic(auto)]
+
 mod lookups;
 mod pass;
 mod payment;
@@ -21,7 +23,7 @@ use repeats::Repeat;
 
 // What the report says of a batch (01 Report): the number of its first record, its record count, its payments, their exact total,
 // and the first finding, of reason 0 where the batch is sound.
-#[derive(Drop)]
+#[derive(Clone, Copy)]
 pub struct Row {
     pub first_record: usize,
     pub records: usize,
@@ -48,7 +50,7 @@ fn row_of(walked: Walked, first_record: usize) -> Row
 }
 
 // What the next walk is told, and whether there is one.
-#[derive(Drop)]
+#[derive(Clone, Copy)]
 struct Seeking {
     told: Told,
     again: bool,

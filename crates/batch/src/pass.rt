@@ -17,14 +17,14 @@ use repeats::Repeat;
 use repeats::climb::{Climbing, climb};
 
 // What a walk is told of its batch: the first record that repeats an earlier Payment ID, and whether there are too many kinds.
-#[derive(Drop)]
+#[derive(Clone, Copy)]
 pub(crate) struct Told {
     pub(crate) repeat: Repeat,
     pub(crate) crowded: bool,
 }
 
 // What is known after a record: the state, whether the Payment IDs climbed so far, and the count of the records.
-#[derive(Drop)]
+#[derive(Clone, Copy)]
 pub(crate) struct Walked {
     pub(crate) state: State,
     pub(crate) climbing: Climbing,

@@ -10,7 +10,7 @@ use rules::Context;
 
 // What is known of a payment: its detail's record, what its rules know of the batch, its amount, its DT and their signed sum, its DP,
 // whether the first of them is blank, and their sum.
-#[derive(Drop)]
+#[derive(Clone, Copy)]
 pub(crate) struct Open {
     pub(crate) number: usize,
     pub(crate) context: Context,

@@ -30,7 +30,7 @@ use rules::{Codes, Context};
 
 // What the header says: its record, the batch's letter, what the book says of the location in field 14, fields 18, 19 and 20, and the total of
 // field 9. And whether the batch is known to have too many kinds, and today, where it is lent.
-#[derive(Drop)]
+#[derive(Clone, Copy)]
 pub(crate) struct Header {
     pub(crate) number: usize,
     pub(crate) letter: Letter,
@@ -44,7 +44,7 @@ pub(crate) struct Header {
 }
 
 // What is known after a record: the first finding, what the header says, the open payment, the batch's payments, total and DT so far.
-#[derive(Drop)]
+#[derive(Clone, Copy)]
 pub(crate) struct State {
     pub(crate) finding: Finding,
     pub(crate) header: Header,

@@ -1,5 +1,7 @@
 // Shows the row (01 Report) of each case of a table: a sound batch, or one with changes, in a file of its own between FH and FT.
 // Where the records do not nest as one batch it says `no batch`.
+#![tactic(auto)]
+
 mod changes;
 mod files;
 mod table;

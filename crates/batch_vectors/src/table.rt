@@ -6,21 +6,21 @@ ghost use Rattle.std.specs.Prelude.{◌≤◌, ◌<◌, length};
 pub(crate) const LABEL: usize = 48;
 
 // A word of a row: from `start` up to `end`.
-#[derive(Drop)]
+#[derive(Clone, Copy)]
 pub(crate) struct Word {
     pub(crate) start: usize,
     pub(crate) end: usize,
 }
 
 // A number of a row, and where the next word is looked for.
-#[derive(Drop)]
+#[derive(Clone, Copy)]
 pub(crate) struct Number {
     pub(crate) value: usize,
     pub(crate) next: usize,
 }
 
 // The payments of a batch, the DX, DT and DP of each, and where the next word is looked for.
-#[derive(Drop)]
+#[derive(Clone, Copy)]
 pub(crate) struct Shape {
     pub(crate) payments: usize,
     pub(crate) parties: usize,

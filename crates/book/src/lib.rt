@@ -1,4 +1,6 @@
 // The lent code books: the national one (document 01, Code book) and a bureau's own beside it (02 W14).
+#![tactic(auto)]
+
 pub mod reading;
 pub mod search;
 
@@ -11,7 +13,7 @@ const LENT: Line = Line {
 };
 
 // A kind of section: its number, the bytes of a code and the bytes of an entry.
-#[derive(Drop)]
+#[derive(Clone, Copy)]
 pub struct Kind {
     pub number: usize,
     pub code: usize,
@@ -19,7 +21,7 @@ pub struct Kind {
 }
 
 // Where a section's entries stand in the book, how many there are, and the bytes of a code and of an entry.
-#[derive(Drop)]
+#[derive(Clone, Copy)]
 pub struct Section {
     pub start: usize,
     pub count: usize,
@@ -28,7 +30,7 @@ pub struct Section {
 }
 
 // What a book is found to be: sound or not, and where its seven sections stand.
-#[derive(Drop)]
+#[derive(Clone, Copy)]
 pub struct Book {
     pub sound: bool,
     pub systems: Section,
@@ -41,7 +43,7 @@ pub struct Book {
 }
 
 // Where the sections of the national book stand, and those of the bureau's own.
-#[derive(Drop)]
+#[derive(Clone, Copy)]
 pub struct Shelves {
     pub national: Book,
     pub own: Book,

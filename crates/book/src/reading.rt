@@ -52,7 +52,7 @@ const CURRENCIES: Kind = Kind {
 };
 
 // What reading a section comes to: whether it is sound, where it stands, and where the next begins.
-#[derive(Drop)]
+#[derive(Clone, Copy)]
 struct Found {
     ok: bool,
     section: Section,

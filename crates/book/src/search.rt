@@ -9,7 +9,7 @@ use crate::{LENT, Section};
 use record::{Field, Justification, Line, Order};
 
 // What the book says of a code: whether it is listed, and whether its entry is flagged, a CARS Reporter in kind 2, a credit in kind 3.
-#[derive(Drop)]
+#[derive(Clone, Copy)]
 pub struct Listing {
     pub listed: bool,
     pub flagged: bool,

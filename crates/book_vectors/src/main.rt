@@ -1,5 +1,7 @@
 // Shows of each book on standard input whether it is sound, and what a lookup of 40 bytes finds in each of its sections.
 // Before each book stand its length, four little-endian bytes, and the 40 bytes.
+#![tactic(auto)]
+
 ghost use Rattle.std.specs.Prelude.{◌≤◌, ◌<◌};
 ghost use Rattle.book.specs.Book.{Shelved, Usable};
 

@@ -1,4 +1,6 @@
 // Dates in fields, by the Gregorian calendar (document 01, Date), and the rules that need today's (02 W4).
+#![tactic(auto)]
+
 pub mod clock;
 mod limits;
 
@@ -10,7 +12,7 @@ ghost use Rattle.calendar.specs.Clock.{day_in, month_in};
 use record::{Field, Line};
 
 // A real day: its year, its month, and its number, counted from 0001-01-01.
-#[derive(Drop)]
+#[derive(Clone, Copy)]
 pub struct Day {
     pub year: u64,
     pub month: u64,
@@ -18,21 +20,21 @@ pub struct Day {
 }
 
 // A month of a year; year 0 and month 0 are none.
-#[derive(Drop)]
+#[derive(Clone, Copy)]
 pub struct Month {
     pub year: u64,
     pub month: u64,
 }
 
 // The difference of two days, with its sign.
-#[derive(Drop)]
+#[derive(Clone, Copy)]
 pub enum Span {
     Ahead(u64),
     Back(u64),
 }
 
 // Today, where the caller lends it.
-#[derive(Drop)]
+#[derive(Clone, Copy)]
 pub enum Today {
     Unlent,
     Lent(Day),

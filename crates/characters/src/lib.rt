@@ -1,4 +1,6 @@
 // Bytes below hex 40 outside fillers (01 Bytes). Fields between two fillers are looked at as one stretch.
+#![tactic(auto)]
+
 ghost use Rattle.std.specs.Prelude.{◌≡◌, ◌≤◌, length};
 ghost use Rattle.record.specs.Value.{seen};
 ghost use Rattle.record.specs.Codes.{code_of};

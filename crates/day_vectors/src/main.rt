@@ -1,4 +1,6 @@
 // Shows the number of each day that another program's calendar made (02 W4): a line for each eight bytes on standard input, as today is lent.
+#![tactic(auto)]
+
 use calendar::{Today, clock};
 
 // The number of a day; of what is no day, that it is none.

@@ -25,7 +25,7 @@ pub(crate) const TODAY: usize = 512;
 pub(crate) const BOOK: usize = 528;
 
 // What the file has, the bytes of file, book, today and report that the judge is lent, and where the next item is looked for.
-#[derive(Drop)]
+#[derive(Clone, Copy)]
 pub(crate) struct Case {
     pub(crate) made: Made,
     pub(crate) file: usize,

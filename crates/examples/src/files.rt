@@ -36,7 +36,7 @@ const PROCUREMENT: usize = 7;
 const TRAILER: usize = 9;
 
 // What a file has so far.
-#[derive(Drop)]
+#[derive(Clone, Copy)]
 pub(crate) struct Made {
     pub(crate) records: usize,
     pub(crate) payments: usize,

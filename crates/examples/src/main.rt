@@ -1,5 +1,7 @@
 // Shows what the judge answers to each case of a table (01 File answers, Report): the number that it returns; of an accepted file the
 // numbers of each row; and whether the bytes of the report space outside those rows are as they were.
+#![tactic(auto)]
+
 mod ascii;
 mod case;
 mod changes;

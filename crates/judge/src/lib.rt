@@ -1,4 +1,6 @@
 // The judge: two entries for the bureau's intake, on byte slices (01 Expected form; 02 W4, W14).
+#![tactic(auto)]
+
 ghost use Rattle.std.specs.Prelude.{[]};
 ghost use Rattle.judge.specs.Judged.{Promised};
 

@@ -1,4 +1,6 @@
 // The kinds of TAS/BETC of a batch (02 W1; 004 section 2.5): whether its DT have more than 1,000 different ones.
+#![tactic(auto)]
+
 ghost use Rattle.std.specs.Prelude.{◌≡◌, ◌+◌, ◌*◌, ◌/◌, ◌<◌, ◌≤◌, length};
 ghost use Rattle.record.specs.Choice.{choose};
 ghost use Rattle.record.specs.Value.{seen};

@@ -1,5 +1,7 @@
 // Shows what the leaves say of records that another program encoded: a line for each record on standard input. A record that begins with FH
 // in ASCII is ASCII.
+#![tactic(auto)]
+
 use record::codes::{Code, Letter};
 use record::{Field, Justification, Line, Order, layout};
 

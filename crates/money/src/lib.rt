@@ -1,4 +1,6 @@
 // Exact amounts of money: two words, of ten decimal digits and more.
+#![tactic(auto)]
+
 ghost use Rattle.std.specs.Prelude.{◌≡◌, eqb, ltb, ◌+◌};
 ghost use Rattle.record.specs.Value.{Has, seen, held};
 ghost use Rattle.money.specs.Money.{worth, split, cents, Whole, Fit, entered, comes_to};
@@ -6,14 +8,14 @@ ghost use Rattle.money.specs.Money.{worth, split, cents, Whole, Fit, entered, co
 use record::{Field, Justification, Line};
 
 // high * 10^10 + low cents.
-#[derive(Drop)]
+#[derive(Clone, Copy)]
 pub struct Amount {
     pub high: u64,
     pub low: u64,
 }
 
 // A sum of amounts with signs: what counts positive and what counts negative, apart.
-#[derive(Drop)]
+#[derive(Clone, Copy)]
 pub struct Signed {
     pub positive: Amount,
     pub negative: Amount,

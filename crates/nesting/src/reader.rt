@@ -10,7 +10,7 @@ use record::codes::{Code, Letter};
 use record::layout::PAYMENT_ID;
 
 // Where the reader stands.
-#[derive(Drop)]
+#[derive(Clone, Copy)]
 pub enum Place {
     Start,
     FileOpen,
@@ -21,7 +21,7 @@ pub enum Place {
 }
 
 // What is known after a record: the batch's letter, the payment's ID and what it has so far, the batches and payments so far.
-#[derive(Drop)]
+#[derive(Clone, Copy)]
 pub struct State {
     pub(crate) place: Place,
     pub(crate) letter: Letter,

@@ -1,5 +1,7 @@
 // Shows of each file on standard input whether its records nest. Before each file stands the number of its records, two
 // little-endian bytes; of each record only the code and the Payment ID are sent, 22 bytes, and the rest stays blank.
+#![tactic(auto)]
+
 ghost use Rattle.std.specs.Prelude.{◌≤◌, ◌<◌};
 ghost use Rattle.nesting.specs.Records.{Cuttable};
 

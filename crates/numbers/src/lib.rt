@@ -1,4 +1,6 @@
 // Little-endian numbers of any width (01 Code book, Report), read and written through a part of a slice.
+#![tactic(auto)]
+
 ghost use Rattle.std.specs.Prelude.{◌≡◌, ◌<◌, ◌≤◌, ◌^◌, length};
 ghost use Rattle.numbers.specs.Numbers.{little, number_in};
 

@@ -1,4 +1,6 @@
 // ASCII files (02 W2): which they are, and what their bytes become.
+#![tactic(auto)]
+
 ghost use Rattle.std.specs.Prelude.{◌≡◌, true};
 ghost use Rattle.page.specs.CodePage.{sent_digits, code_page, ebcdic, shown, is_ascii};
 

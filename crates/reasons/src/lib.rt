@@ -1,4 +1,6 @@
 // What is wrong with a field (01 Batch reasons), and the first of what is wrong.
+#![tactic(auto)]
+
 pub mod amounts;
 pub mod checks;
 pub mod dates;
@@ -31,7 +33,7 @@ const SUM: usize = 14;
 const TIME: usize = 15;
 
 // A reason, 0 where nothing is wrong, with the numbers of the record and of 004's field.
-#[derive(Drop)]
+#[derive(Clone, Copy)]
 pub struct Finding {
     pub reason: usize,
     pub record_number: usize,

@@ -11,7 +11,7 @@ use crate::{Line, place};
 use page::translate_all;
 
 // The kind of a batch and of its details.
-#[derive(Drop)]
+#[derive(Clone, Copy)]
 pub enum Letter {
     N,
     C,
@@ -21,7 +21,7 @@ pub enum Letter {
 }
 
 // What a record's first two bytes say it is.
-#[derive(Drop)]
+#[derive(Clone, Copy)]
 pub enum Code {
     FileHeader,
     Batch(Letter),

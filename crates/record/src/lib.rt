@@ -1,4 +1,6 @@
 // Records of document 004, read in one way: a field leaf finds where a field's value stands, and a leaf of `place` reads it there.
+#![tactic(auto)]
+
 pub mod codes;
 pub mod layout;
 mod moved;
@@ -18,7 +20,7 @@ ghost use Rattle.record.specs.Ordering.{order};
 use moved::{Test, stands};
 
 // How a field's justification is corrected (02 W3, 004 section 1.7).
-#[derive(Drop)]
+#[derive(Clone, Copy)]
 pub enum Justification {
     Text,
     Number,
@@ -27,7 +29,7 @@ pub enum Justification {
 }
 
 // Where document 004 puts a field: its start position, counted from 1, and its length; and how its justification is corrected.
-#[derive(Drop)]
+#[derive(Clone, Copy)]
 pub struct Field {
     pub start: usize,
     pub width: usize,
@@ -35,14 +37,14 @@ pub struct Field {
 }
 
 // What is known of a record beside its bytes: its number in the file, which a finding names, and whether the file is ASCII.
-#[derive(Drop)]
+#[derive(Clone, Copy)]
 pub struct Line {
     pub number: usize,
     pub ascii: bool,
 }
 
 // How a value stands to another in the order of bytes.
-#[derive(Drop)]
+#[derive(Clone, Copy)]
 pub enum Order {
     Before,
     Same,

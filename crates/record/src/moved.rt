@@ -15,7 +15,7 @@ use crate::{Justification, Order, place};
 use page::{translate, translate_all};
 
 // A value: zeros, a part of the record, and blanks up to the value's width.
-#[derive(Drop)]
+#[derive(Clone, Copy)]
 pub(crate) struct Moved {
     pub zeros: usize,
     pub kept: Place,
@@ -208,7 +208,7 @@ fn byte(rec: &[u8], moved: Moved, i: usize) -> u8
 }
 
 // What every byte of a value is asked.
-#[derive(Drop)]
+#[derive(Clone, Copy)]
 pub(crate) enum Test {
     Zero,
     Digit,

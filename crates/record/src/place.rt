@@ -14,7 +14,7 @@ use crate::{Field, Line, Order};
 use page::{translate, translate_all};
 
 // Where a value stands: its first byte, counted from 0, how many there are, and whether they are ASCII.
-#[derive(Drop)]
+#[derive(Clone, Copy)]
 pub(crate) struct Place {
     pub start: usize,
     pub width: usize,

@@ -19,7 +19,7 @@ pub(crate) const TABLE: usize = 4096;
 
 // What is known after a record of a block: whether it is of the sort, whether the table holds its number, the places in the table, and the
 // first record that found no room.
-#[derive(Drop)]
+#[derive(Clone, Copy)]
 pub(crate) struct Visited {
     pub(crate) own: bool,
     pub(crate) known: bool,
@@ -28,7 +28,7 @@ pub(crate) struct Visited {
 }
 
 // Where a block ends, and where the next one begins.
-#[derive(Drop)]
+#[derive(Clone, Copy)]
 struct BlockEnd {
     place: usize,
     next: usize,

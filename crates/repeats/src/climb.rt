@@ -9,7 +9,7 @@ use record::Line;
 use record::codes::{Code, is_detail};
 
 // Whether a Payment ID failed to stand after all those before it, and the greatest ID before it fell.
-#[derive(Drop)]
+#[derive(Clone, Copy)]
 pub struct Climbing {
     pub falls: bool,
     pub greatest: [u8; 20],

@@ -14,7 +14,7 @@ use crate::blocks::{TABLE, visit};
 use record::Line;
 
 // Where the next block begins, and the index of the flag of the first header from there on.
-#[derive(Drop)]
+#[derive(Clone, Copy)]
 struct NextBlock {
     place: usize,
     index: usize,

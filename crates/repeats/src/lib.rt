@@ -1,4 +1,6 @@
 // Numbers that repeat an earlier one (01 Batch reasons, 6).
+#![tactic(auto)]
+
 mod blocks;
 pub mod climb;
 mod flags;
@@ -16,14 +18,14 @@ ghost use Rattle.repeats.specs.Schedules.{Batched, Noted, numbers_before, number
 use record::Line;
 
 // What is numbered: payments by Payment ID, batches by schedule number.
-#[derive(Drop)]
+#[derive(Clone, Copy)]
 pub enum Sort {
     Payments,
     Batches,
 }
 
 // The number of a record, or none.
-#[derive(Drop)]
+#[derive(Clone, Copy)]
 pub enum Repeat {
     At(usize),
     Nowhere,
@@ -31,7 +33,7 @@ pub enum Repeat {
 
 // What is known of a batch's schedule number: whether an earlier batch has it, the greatest number while they rise, and whether the batches are
 // marked.
-#[derive(Drop)]
+#[derive(Clone, Copy)]
 pub struct Numbering {
     pub repeats: bool,
     pub greatest: [u8; 14],

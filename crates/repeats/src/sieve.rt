@@ -23,14 +23,14 @@ const WALKS: usize = 16;
 const MARKS: usize = 7;
 
 // Whether a pass stops at a record, and the suspects counted after it.
-#[derive(Drop)]
+#[derive(Clone, Copy)]
 struct Trial {
     stops: bool,
     walks: usize,
 }
 
 // Where a pass ends, and the suspects counted after it.
-#[derive(Drop)]
+#[derive(Clone, Copy)]
 struct Passing {
     place: usize,
     walks: usize,

@@ -1,4 +1,6 @@
 // Rows of the report, and where they stand (01 Report).
+#![tactic(auto)]
+
 ghost use Rattle.std.specs.Prelude.{◌≡◌, ◌+◌, ◌<◌, ◌≤◌, length};
 ghost use Rattle.report.specs.Rows.{row_bytes, row_at, room_for, over};
 

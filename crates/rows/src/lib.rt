@@ -1,4 +1,6 @@
 // The report of an accepted file (01 Report): the head and a row for each batch, each through its own part of the report.
+#![tactic(auto)]
+
 ghost use Rattle.std.specs.Prelude.{◌≡◌, ◌+◌, ◌<◌, ◌≤◌, length};
 ghost use Rattle.page.specs.CodePage.{shown};
 ghost use Rattle.book.specs.Merged.{BothUsable, merged_at};
@@ -15,7 +17,7 @@ use record::Line;
 use repeats::Numbering;
 
 // What is known after a batch: the numbers of its row, and the records up to its end.
-#[derive(Drop)]
+#[derive(Clone, Copy)]
 struct Judged {
     numbers: [u64; 8],
     place: usize,

@@ -1,4 +1,6 @@
 // The rules of one record (01 Header, Detail, Others).
+#![tactic(auto)]
+
 pub mod detail;
 pub mod header;
 pub mod others;
@@ -13,7 +15,7 @@ use record::Line;
 use record::layout::CHECK_SYMBOL_NUMBER;
 
 // Whether a record's code of each kind is in the book (01 Code book, kinds 2 to 7); false where it has none of that kind.
-#[derive(Drop)]
+#[derive(Clone, Copy)]
 pub struct Codes {
     pub locations: bool,
     pub betcs: bool,
@@ -26,7 +28,7 @@ pub struct Codes {
 // What the rules of a record need to know beside the record: whether its number repeats an earlier one, whether the payer is a CARS
 // Reporter, what was looked up, the header's check symbol, first serial number and accounting month, the payments before this record and
 // their total; and today, where it is lent.
-#[derive(Drop)]
+#[derive(Clone, Copy)]
 pub struct Context {
     pub repeats: bool,
     pub reporter: bool,

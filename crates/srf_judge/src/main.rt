@@ -1,4 +1,6 @@
 // Judges the file on standard input with the code book in `book.bin`, and prints the rows or the refusal (01 Worked examples, the program).
+#![tactic(auto)]
+
 ghost use Rattle.std.specs.Prelude.{◌+◌, ◌<◌, ◌≤◌, length};
 ghost use Rattle.report.specs.Rows.{room_for};
 

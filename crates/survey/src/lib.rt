@@ -1,4 +1,6 @@
 // One pass over a file's records for three answers (01 File answers, 5, 7 and 13): a pass each would wait for the memory of each record three times.
+#![tactic(auto)]
+
 mod pass;
 
 ghost use Rattle.std.specs.Prelude.{◌≡◌, ◌≤◌, length};
@@ -13,7 +15,7 @@ use record::codes::{code_bytes, code_of};
 use record::{Field, Justification, Line};
 
 // Whether the records nest; and, where they do, the first with a byte below hex 40 outside its fillers, or 0, and the exact sum of the payments.
-#[derive(Drop)]
+#[derive(Clone, Copy)]
 pub struct Survey {
     pub nested: Verdict,
     pub unclean: usize,

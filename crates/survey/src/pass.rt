@@ -18,7 +18,7 @@ use record::layout::AMOUNT;
 
 // What is known after a record: the reader's state, the first record with a byte below hex 40 outside its fillers, or 0, and the exact
 // sum of the details.
-#[derive(Drop)]
+#[derive(Clone, Copy)]
 pub(crate) struct Going {
     pub(crate) state: State,
     pub(crate) unclean: usize,

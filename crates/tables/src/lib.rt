@@ -1,4 +1,6 @@
 // Sorted tables of places: records in ascending order of a key, each value once. A table is lent, so its size is the caller's.
+#![tactic(auto)]
+
 mod kind;
 
 ghost use Rattle.std.specs.Prelude.{◌≡◌, ◌*◌, ◌<◌, ◌≤◌, length};
@@ -9,21 +11,21 @@ ghost use Rattle.tables.specs.Tables.{Stands, InRecord, Tabled, value_at, kept, 
 use record::{Field, Line, Order};
 
 // What became of a record: whether the table held its value before, and how many places the table holds after it.
-#[derive(Drop)]
+#[derive(Clone, Copy)]
 pub struct Entry {
     pub known: bool,
     pub count: usize,
 }
 
 // What a table is ordered by: what a field of the records holds, or the kind of a DT.
-#[derive(Drop)]
+#[derive(Clone, Copy)]
 pub enum Key {
     Value(Field),
     Kind,
 }
 
 // Where a value stands in a table, or would stand.
-#[derive(Drop)]
+#[derive(Clone, Copy)]
 struct Seat {
     at: usize,
     taken: bool,

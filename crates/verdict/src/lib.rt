@@ -1,4 +1,6 @@
 // The answer about a file (01 File answers): fourteen tests in the stated order. Nothing is written.
+#![tactic(auto)]
+
 mod frame;
 mod reason;
 
@@ -15,7 +17,7 @@ use money::Amount;
 use record::Line;
 
 // The returned number; and, of an accepted file, where the books' sections stand, its batches, its payments and their exact total.
-#[derive(Drop)]
+#[derive(Clone, Copy)]
 pub struct Verdict {
     pub answer: u64,
     pub shelves: Shelves,

@@ -1,4 +1,6 @@
 // Bytes held against each other eight at a time: as one number, the first byte counting most, eight bytes stand in the order of their numbers.
+#![tactic(auto)]
+
 ghost use Rattle.std.specs.Prelude.{◌≡◌, ◌+◌, ◌≤◌, length, drop};
 ghost use Rattle.std.proofs.Math.Seq.{slice};
 ghost use Rattle.record.specs.Ordering.{order, is_after};

@@ -1,0 +1,4 @@
+use Rattle.record.proofs.moved.move_right.Goals as goal
+
+pub returns : goal.returns
+returns c = cc

@@ -1,0 +1,15 @@
+use Prim.Native.Nat.{◌≤◌, ◌-◌}
+use mathlib.Core.Path.{◌≡◌}
+use Rattle.record.proofs.Copies.{copied_none, copied_next, copied_all}
+use Rattle.record.proofs.Sent.{sent_length}
+use borrow.Author.Rules.{rules}
+use Rattle.record.proofs.place.copy_sent.Goals as goal
+
+pub loop-i-init : goal.loop-i-init
+loop-i-init c = search (rules, copied_none)
+
+pub loop-i-preserved : goal.loop-i-preserved
+loop-i-preserved c = search (rules, copied_next, sent_length)
+
+pub returns : goal.returns
+returns c = search (rules, copied_all, sent_length)

@@ -1,0 +1,17 @@
+use borrow.Author.Rules.{rules}
+use Prim.Native.Nat.{◌≤◌, ◌-◌}
+use Rattle.record.proofs.Every.{left_none, every_next, every_stop, every_end, every_whole}
+use Rattle.record.proofs.Sent.{within_plain, eq_none, ne_none}
+use Rattle.record.proofs.place.has_none.Goals as goal
+
+pub loop-i-init : goal.loop-i-init
+loop-i-init c = search (rules, left_none)
+
+pub returns-then-sent_byte-b : goal.returns-then-sent_byte-b
+returns-then-sent_byte-b c = every_whole _ _ _ _ (search (rules, within_plain)) (search (rules, every_stop, eq_none, within_plain))
+
+pub loop-i-preserved : goal.loop-i-preserved
+loop-i-preserved c = search (rules, every_next, ne_none, within_plain)
+
+pub returns : goal.returns
+returns c = every_whole _ _ _ _ (search (rules, within_plain)) (search (rules, every_end))

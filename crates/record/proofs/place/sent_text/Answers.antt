@@ -1,0 +1,9 @@
+use Rattle.record.proofs.Chain.{choose_yes, choose_no}
+use borrow.Author.Rules.{rules}
+use Rattle.record.proofs.place.sent_text.Goals as goal
+
+pub returns-then-place : goal.returns-then-place
+returns-then-place c = search (rules, choose_yes)
+
+pub returns : goal.returns
+returns c = search (rules, choose_no)

@@ -1,0 +1,4 @@
+use Rattle.record.proofs.written_digits.Goals as goal
+
+pub returns : goal.returns
+returns c = cc
