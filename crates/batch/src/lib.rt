@@ -9,11 +9,11 @@ mod walk;
 ghost use Rattle.std.specs.Prelude.{◌≡◌, ◌*◌, ◌≤◌, ltb, length, take};
 ghost use Rattle.record.specs.Choice.{◌and◌};
 ghost use Rattle.record.specs.Value.{seen};
-ghost use Rattle.book.specs.Merged.{BothUsable, merged_at};
+ghost use Rattle.book.specs.Book.{Usable, listed_at};
 ghost use Rattle.batch.specs.Batch.{Judgeable, IsRow};
 ghost use Rattle.batch.specs.Walk.{is_somewhere, crowded_in, is_told, learnt, sought, row_at};
 
-use book::Shelves;
+use book::Book;
 use calendar::Today;
 use money::Amount;
 use pass::{Told, Walked};
@@ -128,15 +128,14 @@ fn seek(
 // repeats an earlier batch's or not. One walk tells all where no Payment ID repeats and the kinds are not too many.
 pub fn judge_batch(
     book: &[u8],
-    own: &[u8],
-    shelves: Shelves,
+    shelves: Book,
     today: Today,
     rest: &[u8],
     first: Line,
     repeats: bool,
 ) -> Row
-    requires { BothUsable book.now own.now shelves × Judgeable first.number (seen first rest.now) }
-    ensures { IsRow (merged_at book.now own.now shelves) today repeats first.number (seen first rest.now) result }
+    requires { Usable book.now shelves × Judgeable first.number (seen first rest.now) }
+    ensures { IsRow (listed_at book.now shelves) today repeats first.number (seen first rest.now) result }
 {
     let number = first.number;
     let total = Amount { high: 0, low: 0 };
@@ -158,7 +157,7 @@ pub fn judge_batch(
     };
     let mut again = true;
     while again {
-        let walked = pass::walk_batch(book, own, shelves, today, rest, first, repeats, told);
+        let walked = pass::walk_batch(book, shelves, today, rest, first, repeats, told);
         let climbing = walked.climbing;
         let state = walked.state;
         let next = seek(

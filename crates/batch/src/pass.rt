@@ -3,13 +3,13 @@ ghost use Rattle.std.specs.Prelude.{◌≡◌};
 ghost use Rattle.record.specs.Choice.{choose};
 ghost use Rattle.record.specs.Value.{seen};
 ghost use Rattle.record.specs.Codes.{is_trailer};
-ghost use Rattle.book.specs.Merged.{BothUsable, merged_at};
+ghost use Rattle.book.specs.Book.{Usable, listed_at};
 ghost use Rattle.batch.specs.Batch.{Judgeable};
 ghost use Rattle.batch.specs.Walk.{is_at, walk_of};
 
 use crate::walk;
 use crate::walk::State;
-use book::Shelves;
+use book::Book;
 use calendar::Today;
 use record::Line;
 use record::codes::{Code, code_bytes, code_of, is_trailer};
@@ -55,20 +55,18 @@ fn stop_after(code: Code, end: usize, stop: usize) -> usize
 // The walk over the batch that begins the rest of the file, up to its BT, told of a repeat and of too many kinds, or of none.
 pub(crate) fn walk_batch(
     book: &[u8],
-    own: &[u8],
-    shelves: Shelves,
+    shelves: Book,
     today: Today,
     rest: &[u8],
     first: Line,
     repeats: bool,
     told: Told,
 ) -> Walked
-    requires { BothUsable book.now own.now shelves × Judgeable first.number (seen first rest.now) }
-    ensures { result ≡ walk_of (merged_at book.now own.now shelves) today repeats told first.number (seen first rest.now) }
+    requires { Usable book.now shelves × Judgeable first.number (seen first rest.now) }
+    ensures { result ≡ walk_of (listed_at book.now shelves) today repeats told first.number (seen first rest.now) }
 {
     let mut state = walk::open_batch(
         book,
-        own,
         shelves,
         today,
         &rest[0..850],
@@ -92,16 +90,7 @@ pub(crate) fn walk_batch(
         };
         let repeated = is_at(told, number);
         let code = code_of(code_bytes(&rest[at..end], line));
-        state = walk::step(
-            book,
-            own,
-            shelves,
-            &rest[at..end],
-            line,
-            code,
-            state,
-            repeated,
-        );
+        state = walk::step(book, shelves, &rest[at..end], line, code, state, repeated);
         climbing = climb(&rest[at..end], line, code, climbing);
         records += 1;
         stop = stop_after(code, end, stop);

@@ -5,7 +5,7 @@ ghost use Rattle.record.specs.Choice.{choose};
 ghost use Rattle.record.specs.Value.{seen};
 ghost use Rattle.record.specs.Codes.{code_of};
 ghost use Rattle.money.specs.Money.{worth, Whole};
-ghost use Rattle.book.specs.Merged.{BothUsable, merged_at};
+ghost use Rattle.book.specs.Book.{Usable, listed_at};
 ghost use Rattle.reasons.specs.Findings.{after};
 ghost use Rattle.rules.specs.Rules.{Kept, among, check, procurement, lone_procurement, rules_for, findings};
 ghost use Rattle.batch.specs.Batch.{first_serial, with_codes};
@@ -13,7 +13,7 @@ ghost use Rattle.batch.specs.Walk.{Room, lone_blank, head, opening, context_of, 
 
 use crate::payment::Open;
 use crate::{lookups, payment};
-use book::Shelves;
+use book::Book;
 use book::search::Listing;
 use calendar::{Month, Today};
 use money::Amount;
@@ -83,20 +83,19 @@ fn first_serial(rec: &[u8], line: Line) -> u64
 
 fn read_header(
     book: &[u8],
-    own: &[u8],
-    shelves: Shelves,
+    shelves: Book,
     today: Today,
     rec: &[u8],
     line: Line,
     crowded: bool,
 ) -> Header
-    requires { BothUsable book.now own.now shelves × (length rec.now ≡ 850) }
-    ensures { result ≡ head (merged_at book.now own.now shelves) today crowded line.number (seen line rec.now) }
+    requires { Usable book.now shelves × (length rec.now ≡ 850) }
+    ensures { result ≡ head (listed_at book.now shelves) today crowded line.number (seen line rec.now) }
 {
     let number = line.number;
     let code = code_of(code_bytes(rec, line));
     let letter = letter_in(code);
-    let payer = lookups::location(book, own, shelves, rec, line, AGENCY_LOCATION_CODE);
+    let payer = lookups::location(book, shelves, rec, line, AGENCY_LOCATION_CODE);
     let symbol = rules::symbol_of(rec, line);
     let serial = first_serial(rec, line);
     let month = calendar::month_of(rec, line, CHECK_ACCOUNTING_MONTH_AND_YEAR);
@@ -118,18 +117,17 @@ fn read_header(
 // Before the first payment an empty one of no reporter stands open, with which nothing is wrong.
 pub(crate) fn open_batch(
     book: &[u8],
-    own: &[u8],
-    shelves: Shelves,
+    shelves: Book,
     today: Today,
     rec: &[u8],
     line: Line,
     repeats: bool,
     crowded: bool,
 ) -> State
-    requires { BothUsable book.now own.now shelves × (length rec.now ≡ 850) }
-    ensures { result ≡ opening (merged_at book.now own.now shelves) today repeats crowded line.number (seen line rec.now) }
+    requires { Usable book.now shelves × (length rec.now ≡ 850) }
+    ensures { result ≡ opening (listed_at book.now shelves) today repeats crowded line.number (seen line rec.now) }
 {
-    let header = read_header(book, own, shelves, today, rec, line, crowded);
+    let header = read_header(book, shelves, today, rec, line, crowded);
     let symbol = header.symbol;
     let month = header.month;
     let letter = header.letter;
@@ -188,20 +186,13 @@ fn context_of(state: State, repeats: bool, reporter: bool, codes: Codes) -> Cont
 }
 
 // What the book says of a payer's location: the header's, or in a check batch the detail's (field 29).
-fn payer_of(
-    book: &[u8],
-    own: &[u8],
-    shelves: Shelves,
-    rec: &[u8],
-    line: Line,
-    header: Header,
-) -> Listing
-    requires { BothUsable book.now own.now shelves × (length rec.now ≡ 850) }
-    ensures { result ≡ payer_in (merged_at book.now own.now shelves) header (seen line rec.now) }
+fn payer_of(book: &[u8], shelves: Book, rec: &[u8], line: Line, header: Header) -> Listing
+    requires { Usable book.now shelves × (length rec.now ≡ 850) }
+    ensures { result ≡ payer_in (listed_at book.now shelves) header (seen line rec.now) }
 {
     let letter = header.letter;
     if is_check(letter) {
-        return lookups::location(book, own, shelves, rec, line, PAYMENT_LOCATION_CODE);
+        return lookups::location(book, shelves, rec, line, PAYMENT_LOCATION_CODE);
     }
     header.payer
 }
@@ -209,41 +200,39 @@ fn payer_of(
 // What the rules of a payment's records know of the batch and of the book.
 fn paying_context(
     book: &[u8],
-    own: &[u8],
-    shelves: Shelves,
+    shelves: Book,
     rec: &[u8],
     line: Line,
     state: State,
     repeats: bool,
 ) -> Context
-    requires { BothUsable book.now own.now shelves × (length rec.now ≡ 850) }
-    ensures { result ≡ paying_context (merged_at book.now own.now shelves) state repeats (seen line rec.now) }
+    requires { Usable book.now shelves × (length rec.now ≡ 850) }
+    ensures { result ≡ paying_context (listed_at book.now shelves) state repeats (seen line rec.now) }
 {
     let header = state.header;
-    let payer = payer_of(book, own, shelves, rec, line, header);
-    let codes = lookups::detail_codes(book, own, shelves, rec, line, payer.listed);
+    let payer = payer_of(book, shelves, rec, line, header);
+    let codes = lookups::detail_codes(book, shelves, rec, line, payer.listed);
     context_of(state, repeats, payer.flagged, codes)
 }
 
 // A detail: the payment before it ends, and its own begins.
 fn take_detail(
     book: &[u8],
-    own: &[u8],
-    shelves: Shelves,
+    shelves: Book,
     rec: &[u8],
     line: Line,
     state: State,
     repeats: bool,
 ) -> State
-    requires { BothUsable book.now own.now shelves × (length rec.now ≡ 850) × Room line.number state × (line.number ≤ 65535) }
-    ensures { result ≡ detailed (merged_at book.now own.now shelves) state line.number (seen line rec.now) repeats }
+    requires { Usable book.now shelves × (length rec.now ≡ 850) × Room line.number state × (line.number ≤ 65535) }
+    ensures { result ≡ detailed (listed_at book.now shelves) state line.number (seen line rec.now) repeats }
 {
     let header = state.header;
     let letter = header.letter;
     let known = state.finding;
     let closing = state.payment;
     let before = state.total;
-    let context = paying_context(book, own, shelves, rec, line, state, repeats);
+    let context = paying_context(book, shelves, rec, line, state, repeats);
     let ended = payment::end(known, closing);
     let finding = detail_rules(ended, rec, line, letter, context);
     let amount = money::field_amount(rec, line, AMOUNT);
@@ -299,21 +288,14 @@ fn with_codes(context: Context, codes: Codes) -> Context
 }
 
 // A DT: its BETC is looked up once, for its rules and for the sum. The record's own word for a credit (field 88) is not read.
-fn take_account(
-    book: &[u8],
-    own: &[u8],
-    shelves: Shelves,
-    rec: &[u8],
-    line: Line,
-    state: State,
-) -> State
-    requires { BothUsable book.now own.now shelves × (length rec.now ≡ 850) × Room line.number state × (line.number ≤ 65535) }
-    ensures { result ≡ accounted (merged_at book.now own.now shelves) state line.number (seen line rec.now) }
+fn take_account(book: &[u8], shelves: Book, rec: &[u8], line: Line, state: State) -> State
+    requires { Usable book.now shelves × (length rec.now ≡ 850) × Room line.number state × (line.number ≤ 65535) }
+    ensures { result ≡ accounted (listed_at book.now shelves) state line.number (seen line rec.now) }
 {
     let known = state.finding;
     let before = state.payment;
     let paying = before.context;
-    let betc = lookups::betc(book, own, shelves, rec, line);
+    let betc = lookups::betc(book, shelves, rec, line);
     let codes = lookups::betc_only(betc.listed);
     let context = with_codes(paying, codes);
     let finding = account_rules(known, rec, line, context);
@@ -427,23 +409,22 @@ fn take_trailer(rec: &[u8], line: Line, state: State) -> State
 // The state after a record of the batch; a detail's Payment ID is the first that repeats an earlier one, or not.
 pub(crate) fn step(
     book: &[u8],
-    own: &[u8],
-    shelves: Shelves,
+    shelves: Book,
     rec: &[u8],
     line: Line,
     code: Code,
     state: State,
     repeats: bool,
 ) -> State
-    requires { BothUsable book.now own.now shelves × (length rec.now ≡ 850) × (code ≡ code_of (seen line rec.now)) × Room line.number state × (line.number ≤ 65535) }
-    ensures { result ≡ step_of (merged_at book.now own.now shelves) (code_of (seen line rec.now)) state line.number (seen line rec.now) repeats }
+    requires { Usable book.now shelves × (length rec.now ≡ 850) × (code ≡ code_of (seen line rec.now)) × Room line.number state × (line.number ≤ 65535) }
+    ensures { result ≡ step_of (listed_at book.now shelves) (code_of (seen line rec.now)) state line.number (seen line rec.now) repeats }
 {
     match code {
         Code::FileHeader => state,
         Code::Batch(_) => state,
-        Code::Detail(_) => take_detail(book, own, shelves, rec, line, state, repeats),
+        Code::Detail(_) => take_detail(book, shelves, rec, line, state, repeats),
         Code::Party => take_party(rec, line, state),
-        Code::Account => take_account(book, own, shelves, rec, line, state),
+        Code::Account => take_account(book, shelves, rec, line, state),
         Code::Procurement => take_procurement(rec, line, state),
         Code::BatchTrailer => take_trailer(rec, line, state),
         Code::FileTrailer => state,

@@ -231,7 +231,7 @@ opened_one bs r s (unsound n) (unsound m) = refl
 -- a section where it stands
 as_kind : (bs : List ℕ) (at : ℕ) (k : Kind) (es : List (List ℕ)) (rest : List ℕ) → Stood bs at k es rest → ShelvedAs bs k (standing at k es)
 unfolding standing
-as_kind bs at k es rest v = record { coded = refl; wide = refl; shelved = v.shelved }
+as_kind bs at k es rest v = record { coded = refl; shelved = v.shelved }
 
 -- every section of a book that was found sound can be looked up in
 pub usable : (bs : List ℕ) (r : Book) → Opened bs r → r.sound ≡ true → Usable bs r

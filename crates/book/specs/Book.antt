@@ -230,7 +230,6 @@ listed_at bytes r =
 -- a section of this kind, in which a code can be looked up
 pub record ShelvedAs (bytes : List ℕ) (k : Kind) (s : Section) : Type 0 where
   pub coded : s.code ≡ k.code
-  pub wide : s.entry ≡ k.entry
   pub shelved : Shelved bytes s
 
 -- every section of the book can be looked up in

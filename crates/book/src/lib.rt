@@ -1,4 +1,4 @@
-// The lent code books: the national one (document 01, Code book) and a bureau's own beside it (02 W14).
+// The lent code book (document 01, Code book).
 #![tactic(auto)]
 
 pub mod reading;
@@ -40,11 +40,4 @@ pub struct Book {
     pub states: Section,
     pub countries: Section,
     pub currencies: Section,
-}
-
-// Where the sections of the national book stand, and those of the bureau's own.
-#[derive(Clone, Copy)]
-pub struct Shelves {
-    pub national: Book,
-    pub own: Book,
 }

@@ -2,7 +2,6 @@
 ghost use Rattle.std.specs.Prelude.{◌≡◌, ◌≤◌, ◌<◌, ◌+◌, length, take, drop};
 ghost use Rattle.book.specs.Book.{entry_code, ascend, entries_at, Opened, nowhere, shut};
 ghost use Rattle.record.specs.Ordering.{order, is_before};
-ghost use Rattle.book.specs.Merged.{empty_of, vacant, OpenedOwn};
 ghost use Rattle.book.specs.Reading.{size_at, kind_at, flags, lost, begun, bound, ended, framed, sound_in, Readable, Kinded, Framed, section_at, section_after};
 
 use crate::{Book, Kind, LENT, Section};
@@ -335,49 +334,4 @@ pub fn read_book(book: &[u8]) -> Book
         );
     }
     close()
-}
-
-// An empty section of the kind, where there are no bytes.
-fn empty(kind: Kind) -> Section
-    ensures { result ≡ empty_of kind }
-{
-    Section {
-        start: 0,
-        count: 0,
-        code: kind.code,
-        entry: kind.entry,
-    }
-}
-
-// The places of a book that is not lent: nothing is listed.
-fn vacate() -> Book
-    ensures { result ≡ vacant }
-{
-    let systems = empty(SYSTEMS);
-    let locations = empty(LOCATIONS);
-    let betcs = empty(BETCS);
-    let types = empty(TYPES);
-    let states = empty(STATES);
-    let countries = empty(COUNTRIES);
-    let currencies = empty(CURRENCIES);
-    Book {
-        sound: true,
-        systems,
-        locations,
-        betcs,
-        types,
-        states,
-        countries,
-        currencies,
-    }
-}
-
-// Whether the bytes that are lent for a bureau's own book are a sound book or none, and where its sections stand (02 W14).
-pub fn read_own(own: &[u8]) -> Book
-    ensures { OpenedOwn own.now result }
-{
-    if own.len() == 0 {
-        return vacate();
-    }
-    read_book(own)
 }

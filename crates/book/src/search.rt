@@ -3,7 +3,6 @@ ghost use Rattle.std.specs.Prelude.{◌≡◌, ◌≤◌, length};
 ghost use Rattle.record.specs.Value.{Has, seen, held};
 ghost use Rattle.record.specs.Choice.{choose};
 ghost use Rattle.book.specs.Book.{Shelved, entries_at, entry_for, flag_of, is_none, listing, said, section_at};
-ghost use Rattle.book.specs.Merged.{Paired, entries_in};
 
 use crate::{LENT, Section};
 use record::{Field, Justification, Line, Order};
@@ -68,45 +67,21 @@ fn part_or<'a>(part: &'a [u8], copy: &'a [u8]) -> &'a [u8]
     part
 }
 
-// The entry whose code is the value, in the own book's section or else in the national one's: a part of the book it was found in, or an empty part
-// where neither has it (02 W14).
-fn find_first<'a>(
-    book: &'a [u8],
-    section: Section,
-    own: &'a [u8],
-    mine: Section,
-    value: &[u8],
-) -> &'a [u8]
-    requires { Paired book.now section own.now mine }
-    ensures { result.now ≡ entry_for section.code (entries_in book.now section own.now mine) value.now }
-{
-    if mine.count != 0 {
-        let entry = find_value(own, mine, value);
-        if entry.len() != 0 {
-            return entry;
-        }
-    }
-    find_value(book, section, value)
-}
-
-// The entry whose code the field holds, in the sections of these numbers, own book first, or an empty part where there is none. A code that has to be
-// translated or moved is copied first, so that this is done once and not for each entry it is compared with. The sections come as their numbers: lent
-// as wholes they would keep the books' structs in memory, and a copy of them at every call on the way here.
+// The entry whose code the field holds, in the section of these numbers, or an empty part where there is none. A code that has to be translated or
+// moved is copied first, so that this is done once and not for each entry it is compared with. The section comes as its numbers: lent as a whole it
+// would keep the book's struct in memory, and a copy of it at every call on the way here.
 fn find_in<'a>(
     book: &'a [u8],
     start: usize,
     count: usize,
-    own: &'a [u8],
-    own_start: usize,
-    own_count: usize,
     code: usize,
     entry: usize,
     rec: &[u8],
     line: Line,
     field: Field,
 ) -> &'a [u8]
-    requires { Paired book.now (section_at start count code entry) own.now (section_at own_start own_count code entry) × Has rec.now field × (field.width ≤ 40) }
-    ensures { result.now ≡ entry_for code (entries_in book.now (section_at start count code entry) own.now (section_at own_start own_count code entry)) (held (seen line rec.now) field) }
+    requires { Shelved book.now (section_at start count code entry) × Has rec.now field × (field.width ≤ 40) }
+    ensures { result.now ≡ entry_for code (entries_at book.now (section_at start count code entry)) (held (seen line rec.now) field) }
 {
     let section = Section {
         start,
@@ -114,41 +89,23 @@ fn find_in<'a>(
         code,
         entry,
     };
-    let mine = Section {
-        start: own_start,
-        count: own_count,
-        code,
-        entry,
-    };
     let width = field.width;
     let part = record::field_part(rec, line, field);
     let mut copy = [0u8; 40];
-    let moved = &mut copy[..width];
-    copy_unless(part, rec, line, field, moved);
-    find_first(book, section, own, mine, part_or(part, moved))
+    let own = &mut copy[..width];
+    copy_unless(part, rec, line, field, own);
+    find_value(book, section, part_or(part, own))
 }
 
-// The entry whose code the field holds, in the sections of one kind, own book first: a part of the book it was found in, or an empty part where
-// neither has it (02 W14).
-pub fn find<'a>(
-    book: &'a [u8],
-    section: Section,
-    own: &'a [u8],
-    mine: Section,
-    rec: &[u8],
-    line: Line,
-    field: Field,
-) -> &'a [u8]
-    requires { Paired book.now section own.now mine × Has rec.now field × (field.width ≤ 40) }
-    ensures { result.now ≡ entry_for section.code (entries_in book.now section own.now mine) (held (seen line rec.now) field) }
+// The entry of the section whose code the field holds, or an empty part where there is none.
+pub fn find<'a>(book: &'a [u8], section: Section, rec: &[u8], line: Line, field: Field) -> &'a [u8]
+    requires { Shelved book.now section × Has rec.now field × (field.width ≤ 40) }
+    ensures { result.now ≡ entry_for section.code (entries_at book.now section) (held (seen line rec.now) field) }
 {
     find_in(
         book,
         section.start,
         section.count,
-        own,
-        mine.start,
-        mine.count,
         section.code,
         section.entry,
         rec,
@@ -176,18 +133,10 @@ fn say(entry: &[u8]) -> Listing
     Listing { listed, flagged }
 }
 
-// What the sections of one kind say of the field's code, own book first (02 W14). Nothing is looked up for a blank field.
-pub fn look_up(
-    book: &[u8],
-    section: Section,
-    own: &[u8],
-    mine: Section,
-    rec: &[u8],
-    line: Line,
-    field: Field,
-) -> Listing
-    requires { Paired book.now section own.now mine × Has rec.now field × (field.width ≤ 40) }
-    ensures { result ≡ listing section.code (entries_in book.now section own.now mine) (held (seen line rec.now) field) }
+// What the section says of the field's code. Nothing is looked up for a blank field.
+pub fn look_up(book: &[u8], section: Section, rec: &[u8], line: Line, field: Field) -> Listing
+    requires { Shelved book.now section × Has rec.now field × (field.width ≤ 40) }
+    ensures { result ≡ listing section.code (entries_at book.now section) (held (seen line rec.now) field) }
 {
     if record::field_blank(rec, line, field) {
         return Listing {
@@ -199,9 +148,6 @@ pub fn look_up(
         book,
         section.start,
         section.count,
-        own,
-        mine.start,
-        mine.count,
         section.code,
         section.entry,
         rec,

@@ -1,25 +1,18 @@
-// The judge: two entries for the bureau's intake, on byte slices (01 Expected form; 02 W4, W14).
+// The judge: two entries for the bureau's intake, on byte slices (01 Expected form; 02 W4).
 #![tactic(auto)]
 
 ghost use Rattle.std.specs.Prelude.{[]};
 ghost use Rattle.judge.specs.Judged.{Promised};
 
-// Judges a file, EBCDIC or ASCII (02 W2), with the national code book (01 File answers, Report), with what is lent for a bureau's own, a book that is
-// looked up first or nothing (02 W14), and with what is lent for today, eight EBCDIC digits YYYYMMDD or nothing (02 W4). Returns reason * 100,000 +
-// record and leaves the report as it was, or returns 0 and writes the head and a row for each batch from the start of the report. It takes every
-// file, book, own book, day and report space.
+// Judges a file, EBCDIC or ASCII (02 W2), with a code book (01 File answers, Report) and with what is lent for today: eight EBCDIC digits
+// YYYYMMDD, or nothing (02 W4). Returns reason * 100,000 + record and leaves the report as it was, or returns 0 and writes the head and a row
+// for each batch from the start of the report. It takes every file, book, day and report space.
 #[unsafe(no_mangle)]
-pub extern "C" fn srf_judge_with(
-    file: &[u8],
-    book: &[u8],
-    own: &[u8],
-    today: &[u8],
-    report: &mut [u8],
-) -> u64
-    ensures { Promised file.now book.now own.now today.now report.old result report.new }
+pub extern "C" fn srf_judge_with(file: &[u8], book: &[u8], today: &[u8], report: &mut [u8]) -> u64
+    ensures { Promised file.now book.now today.now report.old result report.new }
 {
     let ascii = page::is_ascii(file);
-    let found = verdict::file_answer(file, ascii, book, own, today, report.len());
+    let found = verdict::file_answer(file, ascii, book, today, report.len());
     let answer = found.answer;
     if answer != 0 {
         return answer;
@@ -31,7 +24,6 @@ pub extern "C" fn srf_judge_with(
         file,
         ascii,
         book,
-        own,
         shelves,
         day,
         found.payments,
@@ -42,10 +34,10 @@ pub extern "C" fn srf_judge_with(
     0
 }
 
-// The same with no own book and nothing for today (01: one entry takes the file, the book and the report space).
+// The same with nothing lent for today (01: one entry takes the file, the book and the report space).
 #[unsafe(no_mangle)]
 pub extern "C" fn srf_judge(file: &[u8], book: &[u8], report: &mut [u8]) -> u64
-    ensures { Promised file.now book.now [] [] report.old result report.new }
+    ensures { Promised file.now book.now [] report.old result report.new }
 {
-    srf_judge_with(file, book, &file[0..0], &file[0..0], report)
+    srf_judge_with(file, book, &file[0..0], report)
 }

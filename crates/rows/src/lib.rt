@@ -3,14 +3,14 @@
 
 ghost use Rattle.std.specs.Prelude.{◌≡◌, ◌+◌, ◌<◌, ◌≤◌, length};
 ghost use Rattle.page.specs.CodePage.{shown};
-ghost use Rattle.book.specs.Merged.{BothUsable, merged_at};
+ghost use Rattle.book.specs.Book.{Usable, listed_at};
 ghost use Rattle.report.specs.Rows.{over, row_at};
 ghost use Rattle.repeats.specs.Schedules.{numbered, flagged};
 ghost use Rattle.rows.specs.Report.{head_row, batch_row, Writable, Written};
 ghost use Rattle.rows.specs.Standing.{Opens, IsJudged, IsWritten, flags_at, flags_in, Numberable};
 
 use batch::Row;
-use book::Shelves;
+use book::Book;
 use calendar::Today;
 use money::Amount;
 use record::Line;
@@ -83,19 +83,18 @@ fn judge_next(
     file: &[u8],
     ascii: bool,
     book: &[u8],
-    own: &[u8],
-    shelves: Shelves,
+    shelves: Book,
     today: Today,
     place: usize,
     repeats: bool,
 ) -> Judged
-    requires { BothUsable book.now own.now shelves × Opens (shown ascii file.now) place }
-    ensures { IsJudged (merged_at book.now own.now shelves) today (shown ascii file.now) repeats place result }
+    requires { Usable book.now shelves × Opens (shown ascii file.now) place }
+    ensures { IsJudged (listed_at book.now shelves) today (shown ascii file.now) repeats place result }
 {
     let number = place + 1;
     let first = Line { number, ascii };
     let at = place * 850;
-    let row = batch::judge_batch(book, own, shelves, today, &file[at..], first, repeats);
+    let row = batch::judge_batch(book, shelves, today, &file[at..], first, repeats);
     let numbers = batch_numbers(row);
     let after = place + row.records;
     Judged {
@@ -109,18 +108,17 @@ fn write_next(
     file: &[u8],
     ascii: bool,
     book: &[u8],
-    own: &[u8],
-    shelves: Shelves,
+    shelves: Book,
     today: Today,
     place: usize,
     repeats: bool,
     written: usize,
     report: &mut [u8],
 ) -> usize
-    requires { BothUsable book.now own.now shelves × Opens (shown ascii file.now) place × (written < 65536) × (row_at written + 64 ≤ length report.old) }
-    ensures { IsWritten (merged_at book.now own.now shelves) today (shown ascii file.now) repeats place written report.old result report.new }
+    requires { Usable book.now shelves × Opens (shown ascii file.now) place × (written < 65536) × (row_at written + 64 ≤ length report.old) }
+    ensures { IsWritten (listed_at book.now shelves) today (shown ascii file.now) repeats place written report.old result report.new }
 {
-    let judged = judge_next(file, ascii, book, own, shelves, today, place, repeats);
+    let judged = judge_next(file, ascii, book, shelves, today, place, repeats);
     let numbers = judged.numbers;
     let at = report::row_at(written);
     report::write_row(report, at, numbers);
@@ -134,16 +132,15 @@ pub fn write_rows(
     file: &[u8],
     ascii: bool,
     book: &[u8],
-    own: &[u8],
-    shelves: Shelves,
+    shelves: Book,
     today: Today,
     payments: usize,
     total: Amount,
     batches: usize,
     report: &mut [u8],
 )
-    requires { BothUsable book.now own.now shelves × Writable (shown ascii file.now) payments total batches report.old }
-    ensures { Written (merged_at book.now own.now shelves) today (shown ascii file.now) report.old report.new }
+    requires { Usable book.now shelves × Writable (shown ascii file.now) payments total batches report.old }
+    ensures { Written (listed_at book.now shelves) today (shown ascii file.now) report.old report.new }
 {
     let records = file.len() / 850;
     let head = head_numbers(records, payments, total, batches);
@@ -154,7 +151,6 @@ pub fn write_rows(
         file,
         ascii,
         book,
-        own,
         shelves,
         today,
         1,
@@ -173,7 +169,6 @@ pub fn write_rows(
             file,
             ascii,
             book,
-            own,
             shelves,
             today,
             place,

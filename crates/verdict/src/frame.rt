@@ -3,52 +3,35 @@ ghost use Rattle.std.specs.Prelude.{◌≡◌, ◌≤◌, length};
 ghost use Rattle.record.specs.Fields.{input_system};
 ghost use Rattle.record.specs.Value.{seen, held};
 ghost use Rattle.money.specs.Money.{worth, Whole};
-ghost use Rattle.book.specs.Merged.{BothUsable, merged_at};
+ghost use Rattle.book.specs.Book.{Usable, listed_at};
 ghost use Rattle.verdict.specs.Answer.{strange};
 ghost use Rattle.verdict.specs.Order.{header_reason, numbered_in, trailer_reason};
 
 use crate::reason;
-use book::Shelves;
+use book::Book;
 use book::search::find;
 use money::Amount;
 use record::{Line, layout};
 
-// The InputSystem is blank or in neither book.
-fn is_strange(book: &[u8], own: &[u8], shelves: Shelves, rec: &[u8], line: Line) -> bool
-    requires { BothUsable book.now own.now shelves × (850 ≤ length rec.now) }
-    ensures { result ≡ strange (merged_at book.now own.now shelves) (held (seen line rec.now) input_system) }
+// The InputSystem is blank or not in the book.
+fn is_strange(book: &[u8], shelves: Book, rec: &[u8], line: Line) -> bool
+    requires { Usable book.now shelves × (850 ≤ length rec.now) }
+    ensures { result ≡ strange (listed_at book.now shelves) (held (seen line rec.now) input_system) }
 {
     if record::field_blank(rec, line, layout::INPUT_SYSTEM) {
         return true;
     }
-    let national = shelves.national;
-    let own_places = shelves.own;
-    let systems = national.systems;
-    let own_systems = own_places.systems;
-    let entry = find(
-        book,
-        systems,
-        own,
-        own_systems,
-        rec,
-        line,
-        layout::INPUT_SYSTEM,
-    );
+    let systems = shelves.systems;
+    let entry = find(book, systems, rec, line, layout::INPUT_SYSTEM);
     entry.len() == 0
 }
 
 // 8 or 9 by FH, or 0.
-pub(crate) fn header_reason(
-    book: &[u8],
-    own: &[u8],
-    shelves: Shelves,
-    rec: &[u8],
-    line: Line,
-) -> u64
-    requires { BothUsable book.now own.now shelves × (850 ≤ length rec.now) }
-    ensures { result ≡ header_reason (merged_at book.now own.now shelves) (seen line rec.now) }
+pub(crate) fn header_reason(book: &[u8], shelves: Book, rec: &[u8], line: Line) -> u64
+    requires { Usable book.now shelves × (850 ≤ length rec.now) }
+    ensures { result ≡ header_reason (listed_at book.now shelves) (seen line rec.now) }
 {
-    if is_strange(book, own, shelves, rec, line) {
+    if is_strange(book, shelves, rec, line) {
         return reason::INPUT_SYSTEM;
     }
     if record::field_is(

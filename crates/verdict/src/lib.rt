@@ -12,15 +12,15 @@ ghost use Rattle.characters.specs.Characters.{first_unclean};
 ghost use Rattle.verdict.specs.Answer.{Judgement};
 ghost use Rattle.verdict.specs.Order.{refusal_by, length_reason, Known, Framed, Roomed};
 
-use book::{Book, Section, Shelves};
+use book::{Book, Section};
 use money::Amount;
 use record::Line;
 
-// The returned number; and, of an accepted file, where the books' sections stand, its batches, its payments and their exact total.
+// The returned number; and, of an accepted file, where the book's sections stand, its batches, its payments and their exact total.
 #[derive(Clone, Copy)]
 pub struct Verdict {
     pub answer: u64,
-    pub shelves: Shelves,
+    pub shelves: Book,
     pub batches: usize,
     pub payments: usize,
     pub total: Amount,
@@ -54,11 +54,7 @@ fn refuse(reason: u64, record_number: usize) -> Verdict
     ensures { result ≡ refusal_by reason record_number }
 {
     let answer = reason * 100000 + record_number as u64;
-    let none = no_book();
-    let shelves = Shelves {
-        national: none,
-        own: none,
-    };
+    let shelves = no_book();
     let total = Amount { high: 0, low: 0 };
     Verdict {
         answer,
@@ -86,13 +82,13 @@ fn length_reason(file: &[u8]) -> u64
 }
 
 // 8 to 13 by the file's first and last record, or accepted.
-fn judge_frame(file: &[u8], ascii: bool, book: &[u8], own: &[u8], accepted: Verdict) -> Verdict
-    requires { Known (shown ascii file.now) book.now own.now accepted }
-    ensures { Framed (shown ascii file.now) book.now own.now result }
+fn judge_frame(file: &[u8], ascii: bool, book: &[u8], accepted: Verdict) -> Verdict
+    requires { Known (shown ascii file.now) book.now accepted }
+    ensures { Framed (shown ascii file.now) book.now result }
 {
     let shelves = accepted.shelves;
     let first = Line { number: 1, ascii };
-    let header = frame::header_reason(book, own, shelves, &file[0..850], first);
+    let header = frame::header_reason(book, shelves, &file[0..850], first);
     if header != 0 {
         return refuse(header, 1);
     }
@@ -114,13 +110,12 @@ fn judge_divided(
     file: &[u8],
     ascii: bool,
     book: &[u8],
-    own: &[u8],
     room: usize,
     unclean: usize,
     accepted: Verdict,
 ) -> Verdict
-    requires { Known (shown ascii file.now) book.now own.now accepted × (unclean ≡ first_unclean 1 (records (shown ascii file.now))) }
-    ensures { Roomed (shown ascii file.now) book.now own.now room result }
+    requires { Known (shown ascii file.now) book.now accepted × (unclean ≡ first_unclean 1 (records (shown ascii file.now))) }
+    ensures { Roomed (shown ascii file.now) book.now room result }
 {
     let wanted = report::room_for(accepted.batches);
     if room < wanted {
@@ -129,31 +124,19 @@ fn judge_divided(
     if unclean != 0 {
         return refuse(reason::LOW_BYTE, unclean);
     }
-    judge_frame(file, ascii, book, own, accepted)
+    judge_frame(file, ascii, book, accepted)
 }
 
-// The answer about a file, ASCII or not, the national book and what is lent beside it, a bureau's own book (02 W14) and today (02 W4), and the room of a
-// report, in document 01's order. Nothing is written.
-pub fn file_answer(
-    file: &[u8],
-    ascii: bool,
-    book: &[u8],
-    own: &[u8],
-    today: &[u8],
-    room: usize,
-) -> Verdict
-    ensures { Judgement (shown ascii file.now) book.now own.now today.now room result }
+// The answer about a file, ASCII or not, what is lent for today (02 W4), and the room of a report, in document 01's order. Nothing is written.
+pub fn file_answer(file: &[u8], ascii: bool, book: &[u8], today: &[u8], room: usize) -> Verdict
+    ensures { Judgement (shown ascii file.now) book.now today.now room result }
 {
     let unfit = length_reason(file);
     if unfit != 0 {
         return refuse(unfit, 0);
     }
-    let national = book::reading::read_book(book);
-    if !national.sound {
-        return refuse(reason::BOOK_UNSOUND, 0);
-    }
-    let own_book = book::reading::read_own(own);
-    if !own_book.sound {
+    let shelves = book::reading::read_book(book);
+    if !shelves.sound {
         return refuse(reason::BOOK_UNSOUND, 0);
     }
     if !calendar::clock::is_lendable(today) {
@@ -165,10 +148,6 @@ pub fn file_answer(
     match nested {
         nesting::Verdict::Refused(number) => refuse(reason::NESTING, number),
         nesting::Verdict::Legal(batches, payments) => {
-            let shelves = Shelves {
-                national,
-                own: own_book,
-            };
             let accepted = Verdict {
                 answer: 0,
                 shelves,
@@ -176,7 +155,7 @@ pub fn file_answer(
                 payments,
                 total,
             };
-            judge_divided(file, ascii, book, own, room, found.unclean, accepted)
+            judge_divided(file, ascii, book, room, found.unclean, accepted)
         }
     }
 }
