@@ -1,0 +1,6 @@
+use Rattle.nesting.specs.Reader.{is_at}
+use Rattle.nesting.proofs.reader.is_at.Goals as goal
+
+pub returns : goal.returns
+unfolding is_at
+returns c = cc

@@ -1,0 +1,12 @@
+use Rattle.nesting.specs.Reader.{complete}
+use Rattle.record.proofs.Chain.{chain, reads}
+use borrow.Author.Rules.{rules}
+use Rattle.nesting.proofs.reader.is_complete.Goals as goal
+
+pub returns-then-is_at : goal.returns-then-is_at
+unfolding complete
+returns-then-is_at c = search (rules, chain, reads)
+
+pub returns : goal.returns
+unfolding complete
+returns c = search (rules, chain, reads)
