@@ -1,6 +1,6 @@
 -- A record that may come next, before what may follow it: together they may follow where the reader stands.
 -- Assumes nothing.
-use mathlib.Core.Path.{◌≡◌, refl, ap, subst}
+use mathlib.Core.Path.{◌≡◌, refl, ap, subst, sym}
 use mathlib.Core.Logic.{◌⊎◌, inl, inr}
 use mathlib.Core.Bool.{Bool, true, false, true≢false}
 use mathlib.Core.List.{List, [], ◌∷◌}
@@ -116,7 +116,7 @@ module _ (r : Record) (rs : List Record) (b p B P : ℕ) where
           },
           u.legal,
         );
-        kind = rw e (beside l r k, u.kind);
+        kind = (rw e (beside l r k), subst (λ (x : Bool). All (λ (c : Batch). Beside x c.header) u.batches) (sym e) u.kind);
         end = u.end;
         counted = omega (arith, u.counted);
         paid = omega (arith, u.paid);

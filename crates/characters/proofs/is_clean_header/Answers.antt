@@ -1,0 +1,12 @@
+use Rattle.record.proofs.Chain.{and_no, and_yes, reads}
+use Rattle.characters.proofs.Stretches.{stretches_of, all_valid, covers, last}
+use borrow.Author.Rules.{rules}
+use Rattle.characters.proofs.is_clean_header.Goals as goal
+
+pub returns-then-not-written_valid : goal.returns-then-not-written_valid
+unfolding stretches_of all_valid
+returns-then-not-written_valid c = search (rules, covers, and_no, reads)
+
+pub returns : goal.returns
+unfolding stretches_of all_valid
+returns c = search (rules, covers, last, and_yes, reads)
