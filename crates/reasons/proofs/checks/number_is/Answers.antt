@@ -1,5 +1,5 @@
 use borrow.Author.Rules.{rules}
-use Rattle.record.proofs.Chain.{chain, reads, told_yes}
+use Rattle.record.proofs.Chain.{chain, reads, told}
 use Rattle.reasons.specs.Reasons.{number_is}
 use Rattle.reasons.proofs.checks.number_is.Goals as goal
 
@@ -12,7 +12,7 @@ unfolding number_is
 returns-then-not-field_digits c = search (rules, chain, reads)
 
 pub field_number-requires : goal.field_number-requires
-field_number-requires c = (search rules, search rules, told_yes _ _ c.field_digits.ensures c.if-not-field_digits.false)
+field_number-requires c = (search rules, search rules, told _ _ _ c.field_digits.ensures c.if-not-field_digits.false)
 
 pub returns-then-field_number-wanted : goal.returns-then-field_number-wanted
 unfolding number_is

@@ -1,0 +1,23 @@
+use Rattle.page.proofs.Shown.{shown_records}
+use Prim.Native.Nat.{◌≤◌, ◌<◌, ◌-◌, ◌/◌}
+use mathlib.Core.Path.{◌≡◌}
+use Rattle.repeats.proofs.Passes.{best_first, best_next, best_hit, best_miss}
+use borrow.Author.Rules.{rules}
+use Rattle.repeats.proofs.sieve.first_by_classes.Goals as goal
+
+pub loop-class-init : goal.loop-class-init
+loop-class-init c =
+    let p = c.pass-opened.ensures (search rules) in
+    search (rules, best_first, shown_records)
+
+pub loop-class-preserved : goal.loop-class-preserved
+loop-class-preserved c =
+    let l = c.loop-class.invariant in
+    let p = c.pass-passed.ensures (search rules) in
+    (search rules, l.1, search rules, l.3, best_next _ _ _ _ _ _ l.4 _ p)
+
+pub returns-then-best-count : goal.returns-then-best-count
+returns-then-best-count c = search (rules, best_hit)
+
+pub returns : goal.returns
+returns c = search (rules, best_miss)

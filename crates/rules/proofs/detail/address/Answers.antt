@@ -1,0 +1,12 @@
+use Rattle.record.specs.Choice.{choose, ◌and◌, ◌or◌}
+use Rattle.record.specs.Codes.{letter_byte}
+use Rattle.reasons.proofs.Firsts.{more, last}
+use Rattle.rules.specs.Rules.{rows, among, findings, reason, in_kind, detail}
+use Rattle.rules.proofs.detail.address.Goals as goal
+
+pub returns : goal.returns
+unfolding rows among findings reason in_kind detail letter_byte choose ◌and◌ ◌or◌
+returns c =
+    more _ _ _ _ _ _ _ _ c.note-after_35.ensures c.if_in_book-reason_35.ensures
+    (more _ _ _ _ _ _ _ _ c.note-after_36.ensures c.if_postal-reason_36.ensures
+    (last _ _ _ _ _ _ c.note.ensures c.if_in_book-reason_38.ensures))

@@ -1,0 +1,12 @@
+use Rattle.record.specs.Choice.{choose, ◌and◌, ◌or◌}
+use Rattle.record.specs.Codes.{letter_byte}
+use Rattle.reasons.proofs.Firsts.{more, last}
+use Rattle.rules.specs.Rules.{rows, among, findings, reason, account}
+use Rattle.rules.proofs.others.account_start.Goals as goal
+
+pub returns : goal.returns
+unfolding rows among findings reason account letter_byte choose ◌and◌ ◌or◌
+returns c =
+    more _ _ _ _ _ _ _ _ c.note-after_80.ensures c.if_reporter-reason_80.ensures
+    (more _ _ _ _ _ _ _ _ c.note-after_84.ensures c.if_reporter-reason_84.ensures
+    (last _ _ _ _ _ _ c.note.ensures c.if_reporter-reason_85.ensures))
