@@ -84,10 +84,18 @@ class Fun:
                 return "c." + ".".join(parts)
             want = norm(parts[0])
             at = chain[n:n + 1] + chain
-            for p in at:
-                old, new = p[2][0], p[2][1]
-                if want in (norm(old), norm(new), norm(old) + "_lem", norm(new) + "_lem"):
-                    return ".".join(["c", new] + parts[1:])
+            bare = re.sub(r"\d+$", "", re.sub(r"_lem$", "", want))
+            tests = [
+                lambda old, new: norm(old) == want,
+                lambda old, new: want == norm(old) + "_lem",
+                lambda old, new: norm(new) == want,
+                lambda old, new: bare == re.sub(r"\d+$", "", norm(old)),
+            ]
+            for test in tests:
+                for p in at:
+                    old, new = p[2][0], p[2][1]
+                    if test(old, new):
+                        return ".".join(["c", new] + parts[1:])
             self.left.append(f"{m.group(0)} at {place}")
             return ".".join(["c"] + parts)
 
@@ -193,6 +201,8 @@ def convert(folder, crate, path, info):
             alias[k.group(1)] = alias[k.group(2)] + k.group(3).count(".before")
             rest = rest[:k.start()] + rest[k.end():]
         rest = f.paths(rest, place, alias)
+        # A test of `!r` says what `r` is.
+        rest = re.sub(r"\btold_(?:yes|not) (\S+) _ ", r"told \1 _ _ ", rest)
         ans += d[5] + [f"pub {new} : goal.{new}"] + ([d[3]] if d[3] else []) + [f"{new} c ={rest}", ""]
     helpers = []
     for d in parts:

@@ -1,11 +1,10 @@
 -- The loop over a file: what is left of its records decides.
 -- Assumes nothing.
 use mathlib.Core.Path.{◌≡◌, refl, sym, ◌∙◌, subst}
-use mathlib.Core.Bool.{Bool, true, false, not}
+use mathlib.Core.Bool.{Bool, true, false}
 use mathlib.Core.List.{List, [], ◌∷◌}
 use Prim.Native.Nat.{ℕ, suc, ◌+◌, ◌*◌, ◌/◌, ◌-◌, ◌<◌, ◌≤◌}
 use native.Mathlib.Omega.{arith}
-use borrow.Author.Tests.{not-true, not-false}
 use lib.ListN.{length, drop, get_or}
 use Rattle.record.specs.declared.codes.Code.{Code}
 use Rattle.record.specs.Choice.{choose}
@@ -76,21 +75,21 @@ module _ (ascii : Bool) (sent : List ℕ) (g : Going) (n at : ℕ) (w : Cuttable
     unfolding follows
     known b e = rw (← c) (sym o ∙ e)
 
-    pub turned : not y ≡ false → (t : Going) → t ≡ stepped (n + 1) here g → Surveying f t (n + 1) (at + 850)
+    pub turned : y ≡ true → (t : Going) → t ≡ stepped (n + 1) here g → Surveying f t (n + 1) (at + 850)
     unfolding survey_on choose
     turned e t q =
         rw q
         (record {
           place = omega (arith, l.place);
           within = omega (arith, within_next h, as_long);
-          decides = l.decides ∙ rw (left_next h, known true (not-false y e));
+          decides = l.decides ∙ rw (left_next h, known true e);
           room = room_next (n + 1) g l.room here (here_small h);
         })
 
-    pub stopped : ((i : ℕ) → get_or sent i 0 < 256) → not y ≡ true → (r : Survey) → r ≡ undivided (n + 1) → Surveyed f r
+    pub stopped : ((i : ℕ) → get_or sent i 0 < 256) → y ≡ false → (r : Survey) → r ≡ undivided (n + 1) → Surveyed f r
     unfolding survey_on choose
     stopped b e r q =
-        let s : survey_on g n (left f n at) ≡ undivided (n + 1) = rw (left_next h, known false (not-true y e)) in
+        let s : survey_on g n (left f n at) ≡ undivided (n + 1) = rw (left_next h, known false e) in
         subst (Surveyed f) (l.decides ∙ (s ∙ sym q)) (surveyed f (shown_bytes ascii sent b))
 
   -- none is left

@@ -16,13 +16,13 @@ pub returns-then-kinds-gt-MOST : goal.returns-then-kinds-gt-MOST
 returns-then-kinds-gt-MOST c =
     let i = c.loop-place.invariant in
     let r = c.count-kinds.ensures in
-    counted_crowded _ _ _ _ _ _ (counted_next _ _ _ _ _ _ i.1 i.0 c.loop-place-test.true (stands_shown _ _ _ _ (search rules, search rules)) _ _ r.0 r.1) i.2 (search rules)
+    counted_crowded _ _ _ _ _ _ (counted_next _ _ _ _ _ _ i.1 i.0 c.loop-place-test.true (stands_shown _ _ _ _ (search rules, search rules)) _ _ r.answer r.after) i.2 (search rules)
 
 pub loop-place-preserved : goal.loop-place-preserved
 loop-place-preserved c =
     let i = c.loop-place.invariant in
     let r = c.count-kinds.ensures in
-    (search rules, counted_next _ _ _ _ _ _ i.1 i.0 c.loop-place-test.true (stands_shown _ _ _ _ (search rules, search rules)) _ _ r.0 r.1, i.2)
+    (search rules, counted_next _ _ _ _ _ _ i.1 i.0 c.loop-place-test.true (stands_shown _ _ _ _ (search rules, search rules)) _ _ r.answer r.after, i.2)
 
 pub returns : goal.returns
 returns c = search (rules, counted_all)

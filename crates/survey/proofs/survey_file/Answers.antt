@@ -1,5 +1,5 @@
 use Prim.Native.Nat.{◌-◌, ◌≤◌}
-use Rattle.record.proofs.Chain.{told_not, told_yes}
+use Rattle.record.proofs.Chain.{told}
 use Rattle.record.proofs.CodeList.{code_read}
 use Rattle.survey.proofs.Highs.{high_none, high_next, high_record}
 use Rattle.survey.proofs.Turns.{surveying, within_next, number_few, turned, stopped, closed, unclosed}
@@ -13,7 +13,7 @@ loop-at-init c = (surveying _ _ c.start-going.ensures, search rules, high_none _
 pub returns-then-not-fits : goal.returns-then-not-fits
 returns-then-not-fits c =
     let h = c.loop-at-test.true in
-    stopped _ _ _ _ _ c.requires c.loop-at.invariant.0 _ h (code_read _ _ _ c.code_bytes.ensures c.code_of-code.ensures) _ c.fits2.ensures
+    stopped _ _ _ _ _ c.requires c.loop-at.invariant.0 _ h (code_read _ _ _ c.code_bytes.ensures c.code_of-code.ensures) _ c.fits.ensures
     (λ i. (c.shared_slice_known-1.given i).fits) c.if-not-fits.true _ c.refuse.ensures
 
 pub step-going-requires : goal.step-going-requires
@@ -21,20 +21,20 @@ step-going-requires c =
     let l = c.loop-at.invariant.0 in
     let h = c.loop-at-test.true in
     let u = c.reach-reached.ensures in
-    (search rules, number_few _ _ _ _ _ c.requires l h, (code_read _ _ _ c.code_bytes.ensures c.code_of-code.ensures), told_yes _ _ c.fits2.ensures c.if-not-fits.false, (λ t. high_record _ _ _ _ u (leb-true _ _ t)), l.room)
+    (search rules, number_few _ _ _ _ _ c.requires l h, (code_read _ _ _ c.code_bytes.ensures c.code_of-code.ensures), told _ _ _ c.fits.ensures c.if-not-fits.false, (λ t. high_record _ _ _ _ u (leb-true _ _ t)), l.room)
 
 pub loop-at-preserved : goal.loop-at-preserved
 loop-at-preserved c =
     let h = c.loop-at-test.true in
     let u = c.reach-reached.ensures in
-    (turned _ _ _ _ _ c.requires c.loop-at.invariant.0 _ h (code_read _ _ _ c.code_bytes.ensures c.code_of-code.ensures) _ c.fits2.ensures c.if-not-fits.false _ c.step-going.ensures, within_next _ _ _ _ _ c.requires c.loop-at.invariant.0 h, high_next _ _ _ u)
+    (turned _ _ _ _ _ c.requires c.loop-at.invariant.0 _ h (code_read _ _ _ c.code_bytes.ensures c.code_of-code.ensures) _ c.fits.ensures c.if-not-fits.false _ c.step-going.ensures, within_next _ _ _ _ _ c.requires c.loop-at.invariant.0 h, high_next _ _ _ u)
 
 pub returns-then-not-is_at : goal.returns-then-not-is_at
 returns-then-not-is_at c =
     unclosed _ _ _ _ _ c.requires c.loop-at.invariant.0 (λ i. (c.shared_slice_known-1.given i).fits) c.loop-at-test.false
-    (told_not _ _ c.is_at.ensures c.if-not-is_at.true) _ c.refuse-then-not-is_at.ensures
+    (told _ _ _ c.is_at.ensures c.if-not-is_at.true) _ c.refuse-then-not-is_at.ensures
 
 pub returns : goal.returns
 returns c =
     closed _ _ _ _ _ c.requires c.loop-at.invariant.0 (λ i. (c.shared_slice_known-1.given i).fits) c.loop-at-test.false
-    (told_yes _ _ c.is_at.ensures c.if-not-is_at.false)
+    (told _ _ _ c.is_at.ensures c.if-not-is_at.false)
