@@ -17,7 +17,7 @@ pub returns-then-count-entry : goal.returns-then-count-entry
 returns-then-count-entry c = search (rules, visit_new, table_own, reads)
 
 pub returns-then-place-next : goal.returns-then-place-next
-returns-then-place-next c = (search (rules, visit_left, reads), search (rules, table_own, reads))
+returns-then-place-next c = record { answer = search (rules, visit_left, reads); after = search (rules, table_own, reads) }
 
 pub returns : goal.returns
-returns c = (search (rules, visit_left_more, reads), search (rules, table_own, reads))
+returns c = record { answer = search (rules, visit_left_more, reads); after = search (rules, table_own, reads) }

@@ -18,7 +18,7 @@ index_after-after-requires c = search (rules, index_few)
 pub set_flag-requires : goal.set_flag-requires
 set_flag-requires c =
     let i = c.loop-place.invariant in
-    flag_fits _ _ _ _ i.1 _ _ _ _ _ _ _ _ i.0 c.loop-place-test.true i.2 _ c.visit-seen.ensures.0 _ c.index_after-after.ensures
+    flag_fits _ _ _ _ i.1 _ _ _ _ _ _ _ _ i.0 c.loop-place-test.true i.2 _ c.visit-seen.ensures.answer _ c.index_after-after.ensures
 
 pub loop-place-preserved : goal.loop-place-preserved
 loop-place-preserved c = search (rules, marking_next)

@@ -13,7 +13,7 @@ returns-then-trial c = search (rules, passed_hit)
 
 pub loop-place-preserved : goal.loop-place-preserved
 loop-place-preserved c =
-    let q = clean_next _ _ _ _ _ _ _ c.try_at-trial.ensures.0 c.loop-place.invariant.4 c.if-trial.false in
+    let q = clean_next _ _ _ _ _ _ _ c.try_at-trial.ensures.answer c.loop-place.invariant.4 c.if-trial.false in
     search (rules, tried_budget)
 
 pub returns : goal.returns
