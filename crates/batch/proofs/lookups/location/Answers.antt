@@ -1,0 +1,12 @@
+use Rattle.book.proofs.Lookup.{said_as}
+use Rattle.book.specs.Book.{listed_at}
+use Rattle.batch.specs.Batch as batch
+use borrow.Author.Rules.{rules}
+use Rattle.batch.proofs.lookups.location.Goals as goal
+
+pub look_up-requires : goal.look_up-requires
+look_up-requires c = let u = c.requires.0 in (u.locations.shelved, search rules, search rules)
+
+pub returns : goal.returns
+unfolding batch.location listed_at
+returns c = said_as _ _ _ _ _ c.requires.0.locations c.look_up.ensures

@@ -1,0 +1,4 @@
+use Rattle.batch.proofs.tell.Goals as goal
+
+pub returns : goal.returns
+returns c = cc
