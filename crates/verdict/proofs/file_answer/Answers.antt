@@ -1,3 +1,5 @@
+use mathlib.Core.Path.{ap}
+use mathlib.Core.Bool.{not}
 use Rattle.verdict.proofs.Laws.{length_small}
 use Rattle.verdict.proofs.Opening.{unfit, bookless, dayless, sent_cuttable, unnested, roomed, named_small, divided, first_unclean_holds}
 use Rattle.verdict.specs.Answer.{number_of}
@@ -34,4 +36,4 @@ returns-in-Refused c = search (rules, unnested, not-false)
 
 pub returns-in-Legal : goal.returns-in-Legal
 returns-in-Legal c =
-    roomed _ _ _ _ _ _ c.is_lendable.ensures c.if-not-is_lendable.false c.judge_divided.ensures
+    roomed _ _ _ _ _ _ c.is_lendable.ensures (ap not c.if-not-is_lendable.false) c.judge_divided.ensures
