@@ -18,7 +18,7 @@ write_next-place-requires c = search (rules, first_opens, first_fits, shown_reco
 pub loop-written-init : goal.loop-written-init
 loop-written-init c =
     let n = c.number_next-opened.ensures in
-    rebased (opened c.requires.1 (shown_records _ _ _ refl) c.head_numbers-head.ensures c.write_row.ensures _ _ _ n.0 n.1 _ _ _ _ c.write_next-place.ensures)
+    rebased (opened c.requires.1 (shown_records _ _ _ refl) c.head_numbers-head.ensures c.write_row.ensures _ _ _ n.answer n.after _ _ _ _ c.write_next-place.ensures)
 
 pub number_next-number-requires : goal.number_next-number-requires
 number_next-number-requires c = numberable c.loop-written.invariant c.loop-written-test.true
@@ -28,7 +28,7 @@ write_next-place-requires-in-loop-written c =
     let l = c.loop-written.invariant in
     let t = c.loop-written-test.true in
     let n = c.number_next-number.ensures in
-    (c.requires.0, opens l t, row_few l t, row_fits l t _ _ n.0 n.1)
+    (c.requires.0, opens l t, row_few l t, row_fits l t _ _ n.answer n.after)
 
 pub overflow_add-written : goal.overflow_add-written
 overflow_add-written c =
@@ -37,7 +37,7 @@ overflow_add-written c =
 pub loop-written-preserved : goal.loop-written-preserved
 loop-written-preserved c =
     let n = c.number_next-number.ensures in
-    turned c.loop-written.invariant c.loop-written-test.true _ _ n.0 n.1 _ _ c.write_next-place-in-loop-written.ensures
+    turned c.loop-written.invariant c.loop-written-test.true _ _ n.answer n.after _ _ c.write_next-place-in-loop-written.ensures
 
 pub shape_of-report : goal.shape_of-report
 shape_of-report c =
@@ -45,7 +45,7 @@ shape_of-report c =
     let e = c.head_numbers-head.ensures in
     let p = c.write_row.ensures in
     let n = c.number_next-opened.ensures in
-    let g = onward (opened w (shown_records _ _ _ refl) e p _ _ _ n.0 n.1 _ _ _ _ c.write_next-place.ensures) c.loop-written.invariant in
+    let g = onward (opened w (shown_records _ _ _ refl) e p _ _ _ n.answer n.after _ _ _ _ c.write_next-place.ensures) c.loop-written.invariant in
     all_kept w (shown_records _ _ _ refl) e p g
 
 pub returns : goal.returns
@@ -54,5 +54,5 @@ returns c =
     let e = c.head_numbers-head.ensures in
     let p = c.write_row.ensures in
     let n = c.number_next-opened.ensures in
-    let g = onward (opened w (shown_records _ _ _ refl) e p _ _ _ n.0 n.1 _ _ _ _ c.write_next-place.ensures) c.loop-written.invariant in
+    let g = onward (opened w (shown_records _ _ _ refl) e p _ _ _ n.answer n.after _ _ _ _ c.write_next-place.ensures) c.loop-written.invariant in
     finished w (shown_records _ _ _ refl) e p g (search rules)
