@@ -7,7 +7,6 @@ mod files;
 mod table;
 
 ghost use Rattle.std.specs.Prelude.{◌≤◌, length, false};
-ghost use Rattle.io.specs.Counts.{IsPrefixLen};
 ghost use Rattle.page.specs.CodePage.{shown};
 ghost use Rattle.book.specs.Book.{Usable};
 ghost use Rattle.nesting.specs.Records.{Cuttable};
@@ -152,16 +151,6 @@ fn show_rows(book: &[u8], shelves: Book, at_hand: &[u8; AT_HAND], table: &[u8])
     }
 }
 
-// Reads a file into the space, and answers its bytes.
-fn read_file(path: &[u8], space: &mut [u8]) -> usize
-    ensures { IsPrefixLen result space.new }
-{
-    let fd = os::open_read(path);
-    let n = io::read_full(fd, space);
-    libc::close(fd);
-    n
-}
-
 // The table, over a book that is sound.
 fn show_table(book: &[u8], at_hand: &[u8; AT_HAND], table: &[u8]) {
     let shelves = book::reading::read_book(book);
@@ -170,12 +159,12 @@ fn show_table(book: &[u8], at_hand: &[u8; AT_HAND], table: &[u8]) {
     }
 }
 
-fn main() {
+fn main(rt: HostRuntime) {
     let mut book = io::buffer();
     let mut at_hand = [0x40u8; AT_HAND];
     let mut table = [0u8; TABLE];
-    let size = read_file(b"book.bin", &mut book);
-    read_file(b"records.bin", &mut at_hand);
+    let size = loading::read_file(&rt, "book.bin", &mut book);
+    loading::read_file(&rt, "records.bin", &mut at_hand);
     let end = io::read_full(0, &mut table);
     show_table(&book[..size], &at_hand, &table[..end]);
 }

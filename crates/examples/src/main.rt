@@ -10,7 +10,6 @@ mod kinds;
 mod table;
 
 ghost use Rattle.std.specs.Prelude.{◌+◌, ◌≤◌, ◌<◌, length};
-ghost use Rattle.io.specs.Counts.{IsPrefixLen};
 ghost use Rattle.report.specs.Rows.{room_for};
 ghost use Rattle.examples.specs.Sized.{Sized};
 
@@ -181,23 +180,13 @@ fn show_table(at_hand: &[u8; AT_HAND], book: [u8; BOOK], size: usize, table: &[u
     }
 }
 
-// Reads a file into the space, and answers its bytes.
-fn read_file(path: &[u8], space: &mut [u8]) -> usize
-    ensures { IsPrefixLen result space.new }
-{
-    let fd = os::open_read(path);
-    let n = io::read_full(fd, space);
-    libc::close(fd);
-    n
-}
-
-fn main() {
+fn main(rt: HostRuntime) {
     let mut book = [0u8; BOOK];
     let mut at_hand = [0x40u8; AT_HAND];
     let mut table = [0u8; TABLE];
-    let size = read_file(b"book.bin", &mut book);
-    read_file(b"records.bin", &mut at_hand);
-    read_file(b"ascii.bin", &mut at_hand[RECORDS..]);
+    let size = loading::read_file(&rt, "book.bin", &mut book);
+    loading::read_file(&rt, "records.bin", &mut at_hand);
+    loading::read_file(&rt, "ascii.bin", &mut at_hand[RECORDS..]);
     let end = io::read_full(0, &mut table);
     show_table(&at_hand, book, size, &table[..end]);
 }

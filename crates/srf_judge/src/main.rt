@@ -70,12 +70,10 @@ fn show_answer(file: &[u8], book: &[u8]) {
     }
 }
 
-fn main() {
+fn main(rt: HostRuntime) {
     let mut book = [0u8; SPACE];
     let mut file = [0u8; SPACE];
-    let fd = os::open_read(b"book.bin");
-    let book_size = io::read_full(fd, &mut book);
-    libc::close(fd);
+    let book_size = loading::read_file(&rt, "book.bin", &mut book);
     let size = io::read_full(0, &mut file);
     if size > MOST || book_size > MOST {
         io::write_all(1, b"too long\n");
