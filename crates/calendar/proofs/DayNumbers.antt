@@ -7,7 +7,7 @@ use mathlib.Core.List.{List, [], ◌∷◌}
 use mathlib.Core.Logic.{◌⊎◌, inl, inr, ⊎_elim}
 use Prim.Native.Nat.{ℕ, zero, suc, ◌+◌, ◌-◌, ◌*◌, ◌/◌, ◌%◌, ◌≤◌, ◌<◌}
 use native.Mathlib.Omega.{arith}
-use lib.Dec.{eqb, leb}
+use lib.Dec.{eqb}
 use lib.ListN.{get_or, take}
 use borrow.Author.Tests.{leb-true, le-leb, lt-leb, eqb-true, eqb-false, eq-eqb, ne_eqb}
 use Rattle.record.specs.Choice.{◌and◌, ◌or◌, choose}
@@ -15,7 +15,7 @@ use Rattle.calendar.specs.declared.Month.{Month}
 use Rattle.calendar.specs.declared.Span.TheVariants.{Ahead, Back}
 use Rattle.calendar.specs.Calendar.{leap, lengths, days_in, real_day, days_of, years_through, day_number}
 use Rattle.calendar.specs.Clock.{first_day, difference, ahead_at_most, year_allowed}
-use Rattle.calendar.proofs.Days.{not_fourth, no_century, century, less_or, Real, real}
+use Rattle.calendar.proofs.Days.{not_fourth, no_century, century, less_or, real}
 
 equal_or : (a b : ℕ) → (a ≡ b) ⊎ (a ≡ b → ⊥)
 equal_or a b = go (eqb a b) refl

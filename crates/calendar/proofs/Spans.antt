@@ -1,6 +1,6 @@
 -- Today as it is lent, and how far a day lies from it.
 -- Assumes nothing.
-use mathlib.Core.Path.{◌≡◌, refl, sym, ap, ◌∙◌}
+use mathlib.Core.Path.{◌≡◌, sym, ap, ◌∙◌}
 use mathlib.Core.Bool.{Bool, true, false, not}
 use mathlib.Core.List.{List}
 use Prim.Native.Nat.{ℕ}
@@ -11,7 +11,7 @@ use lib.ListN.{length}
 use lib.Seq.{take_all}
 use Rattle.page.specs.CodePage.{shown}
 use Rattle.record.specs.declared.Justification.TheVariants.{Fixed}
-use Rattle.record.specs.Choice.{◌and◌, choose}
+use Rattle.record.specs.Choice.{choose}
 use Rattle.record.specs.Value.{written}
 use Rattle.record.proofs.Chain.{and_no, and_yes, and_left, and_right}
 use Rattle.calendar.specs.declared.Day.{Day}

@@ -17,7 +17,7 @@ ghost use Rattle.examples.specs.Sized.{Sized};
 
 use crate::files::{AT_HAND, Made, SPACE};
 use crate::table::{Number, Shape};
-use crate::{ascii, changes, files, kinds, table};
+use crate::{account_kinds, ascii, changes, files, table};
 
 // The bytes of a code book, at most, and of the space in which today's stand after them.
 pub(crate) const TODAY: usize = 512;
@@ -139,7 +139,7 @@ fn take_kinds(file: &mut [u8; SPACE], row: &[u8], case: Case, from: usize) -> Ca
     let count = table::next_number(row, from);
     let last = table::next_number(row, count.next);
     let made = case.made;
-    kinds::change_kinds(file, made.records, count.value, last.value);
+    account_kinds::change_kinds(file, made.records, count.value, last.value);
     moved(case, last.next)
 }
 

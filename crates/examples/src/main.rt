@@ -2,11 +2,11 @@
 // numbers of each row; and whether the bytes of the report space outside those rows are as they were.
 #![tactic(auto)]
 
+mod account_kinds;
 mod ascii;
 mod case;
 mod changes;
 mod files;
-mod kinds;
 mod table;
 
 ghost use Rattle.std.specs.Prelude.{◌+◌, ◌≤◌, ◌<◌, length};

@@ -1,5 +1,3 @@
-use Prim.Native.Nat.{◌-◌, ◌/◌, ◌≤◌}
-use mathlib.Core.Path.{◌≡◌}
 use Rattle.page.proofs.Shown.{shown_records}
 use Rattle.tables.proofs.Tables.{stands_shown}
 use Rattle.kinds.proofs.Counts.{counted_none, counted_tabled, counted_room, counted_next, counted_crowded, counted_all}

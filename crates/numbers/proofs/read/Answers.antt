@@ -1,4 +1,3 @@
-use Prim.Native.Nat.{◌≤◌}
 use Rattle.numbers.proofs.Reading.{read_none, room, read_next, read_all, read_fits}
 use borrow.Author.Rules.{rules}
 use Rattle.numbers.proofs.read.Goals as goal

@@ -1,4 +1,3 @@
-use Prim.Native.Nat.{◌-◌}
 use Rattle.numbers.proofs.Writing.{filled_none, filled_next, filled_all}
 use borrow.Author.Rules.{rules}
 use Rattle.numbers.proofs.write.Goals as goal

@@ -1,4 +1,3 @@
-use Prim.Native.Nat.{◌≤◌, ◌-◌}
 use Rattle.page.proofs.Figures.{figures_none, figures_low, figures_high, figures_next, figures_end}
 use borrow.Author.Rules.{rules}
 use Rattle.page.proofs.are_digits.Goals as goal

@@ -1,4 +1,3 @@
-use Prim.Native.Nat.{◌-◌}
 use Rattle.page.proofs.Shown.{replaced_none, replaced_length, replaced_all}
 use Rattle.page.proofs.Figures.{shift_room, shift_next}
 use borrow.Author.Rules.{rules}

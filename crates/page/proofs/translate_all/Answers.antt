@@ -1,6 +1,5 @@
-use mathlib.Core.Path.{◌≡◌, sym, ap, ◌∙◌}
+use mathlib.Core.Path.{sym, ap, ◌∙◌}
 use mathlib.Core.Bool.{true}
-use Prim.Native.Nat.{◌-◌}
 use lib.ListN.{length}
 use Rattle.page.specs.CodePage.{code_page}
 use Rattle.page.proofs.Shown.{shown_length, replaced_none, replaced_length, replaced_next, replaced_all}

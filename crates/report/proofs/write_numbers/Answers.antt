@@ -1,5 +1,4 @@
-use Prim.Native.Nat.{◌≤◌, ◌<◌, ◌-◌, ◌*◌}
-use mathlib.Core.Path.{◌≡◌}
+use Prim.Native.Nat.{◌<◌}
 use Rattle.numbers.proofs.Writing.{written_none}
 use Rattle.report.proofs.Writing.{number_next, numbers_all}
 use borrow.Author.Rules.{rules}

@@ -1,5 +1,4 @@
 use mathlib.Core.Path.{refl}
-use Prim.Native.Nat.{◌-◌}
 use Rattle.page.proofs.Shown.{shown_records}
 use Rattle.report.proofs.Rows.{head_room}
 use Rattle.rows.proofs.Turns.{opens, numberable, row_few, row_fits, turned, first_opens, first_numberable, first_fits, opened, rebased, onward, all_kept, finished}

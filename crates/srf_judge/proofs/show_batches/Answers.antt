@@ -1,4 +1,3 @@
-use Prim.Native.Nat.{◌-◌}
 use Rattle.report.proofs.Rows.{row_room}
 use borrow.Author.Rules.{rules}
 use Rattle.srf_judge.proofs.show_batches.Goals as goal

@@ -1,4 +1,3 @@
-use Prim.Native.Nat.{◌-◌, ◌≤◌}
 use Rattle.record.proofs.Chain.{told}
 use Rattle.record.proofs.CodeList.{code_read}
 use Rattle.survey.proofs.Highs.{high_none, high_next, high_record}

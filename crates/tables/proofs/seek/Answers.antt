@@ -1,4 +1,3 @@
-use Prim.Native.Nat.{◌-◌}
 use Rattle.record.proofs.Bracket.{opened}
 use Rattle.tables.proofs.Seeks.{next_sent, sought_raised, sought_lowered, seat_taken, value_known, seat_free, value_new}
 use borrow.Author.Rules.{rules, Fits-under}

@@ -1,4 +1,3 @@
-use Prim.Native.Nat.{◌≤◌, ◌-◌}
 use native.Mathlib.Omega.{arith}
 use Rattle.words.proofs.Weights.{left_none, words_apart, words_next, words_rest}
 use borrow.Author.Rules.{rules}

@@ -1,4 +1,3 @@
-use Prim.Native.Nat.{◌≤◌, ◌-◌}
 use Rattle.words.proofs.Weights.{left_none, left_apart, left_next, left_end}
 use borrow.Author.Rules.{rules}
 use Rattle.words.proofs.rest_after.Goals as goal

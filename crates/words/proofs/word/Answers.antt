@@ -1,4 +1,3 @@
-use Prim.Native.Nat.{◌≤◌, ◌<◌, ◌-◌, ◌^◌}
 use native.Mathlib.Nat.{one-le-pow}
 use native.Mathlib.Omega.{arith}
 use Rattle.words.proofs.Weights.{weighed_none, weighed_next, weighed_end, room, grow}

@@ -1,5 +1,4 @@
 use Rattle.record.proofs.CodeList.{code_read}
-use Prim.Native.Nat.{◌-◌}
 use Rattle.batch.proofs.Turns.{first_sent, passing_opened, passed, walking, left, room_here, end_within, end_few, number_few, records_few, here_length, passing_less, passing_next}
 use borrow.Author.Rules.{rules}
 use Rattle.batch.proofs.pass.walk_batch.Goals as goal

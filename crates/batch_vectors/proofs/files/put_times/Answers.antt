@@ -1,6 +1,6 @@
 use native.Mathlib.Omega.{arith}
 use borrow.Author.Rules.{rules}
-use Prim.Native.Nat.{◌<◌, ◌≤◌}
+use Prim.Native.Nat.{◌<◌}
 use Rattle.batch_vectors.proofs.files.put_times.Goals as goal
 
 pub loop-left-preserved : goal.loop-left-preserved

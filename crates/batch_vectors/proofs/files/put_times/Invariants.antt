@@ -1,4 +1,4 @@
-use Prim.Native.Nat.{◌<◌, ◌≤◌}
+use Prim.Native.Nat.{◌≤◌}
 use Rattle.batch_vectors.proofs.files.put_times.Given as goal
 
 abbrev pub invariant-loop-left : goal.invariant-loop-left

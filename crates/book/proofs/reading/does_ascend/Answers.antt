@@ -1,5 +1,4 @@
 use borrow.Author.Rules.{rules}
-use Prim.Native.Nat.{◌≤◌, ◌-◌}
 use native.Mathlib.Omega.{arith}
 use Rattle.book.proofs.Walks.{codes_start, codes_next, codes_stop, codes_end, pair_within}
 use Rattle.book.proofs.reading.does_ascend.Goals as goal

@@ -1,5 +1,4 @@
 use borrow.Author.Rules.{rules}
-use Prim.Native.Nat.{◌≤◌, ◌-◌}
 use native.Mathlib.Omega.{arith}
 use Rattle.book.proofs.Walks.{flags_none, flags_start, flags_next, flags_stop, flags_end, entry_within}
 use Rattle.book.proofs.reading.has_flags.Goals as goal

@@ -1,5 +1,4 @@
 use borrow.Author.Rules.{rules}
-use Prim.Native.Nat.{◌-◌}
 use Rattle.record.proofs.Bracket.{opened}
 use Rattle.book.proofs.Lookup.{fits, has_code, missed, hit, sought_raised, sought_lowered}
 use Rattle.book.proofs.search.find_value.Goals as goal

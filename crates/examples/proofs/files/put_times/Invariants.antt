@@ -1,4 +1,4 @@
-use Prim.Native.Nat.{◌<◌, ◌≤◌}
+use Prim.Native.Nat.{◌≤◌}
 use Rattle.examples.proofs.files.put_times.Given as goal
 
 abbrev pub invariant-loop-left : goal.invariant-loop-left

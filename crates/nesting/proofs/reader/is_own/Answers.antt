@@ -1,5 +1,4 @@
-use Prim.Native.Nat.{◌≤◌, ◌-◌}
-use mathlib.Core.Path.{◌≡◌, refl}
+use mathlib.Core.Path.{refl}
 use Rattle.record.proofs.Same.{both_none, same_more, same_stop, same_whole}
 use Rattle.nesting.specs.Reader.{owns}
 use borrow.Author.Rules.{rules}

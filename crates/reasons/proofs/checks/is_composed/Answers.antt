@@ -1,4 +1,3 @@
-use Prim.Native.Nat.{◌≤◌, ◌-◌}
 use mathlib.Core.Path.{refl, sym, ◌∙◌}
 use Rattle.record.proofs.Same.{both_none, same_more, same_stop, same_whole}
 use Rattle.reasons.proofs.Laws.{composed_length}

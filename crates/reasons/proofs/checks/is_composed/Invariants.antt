@@ -1,5 +1,4 @@
 use Prim.Native.Nat.{◌≤◌, ◌-◌}
-use mathlib.Core.Path.{◌∙◌}
 use lib.ListN.{length}
 use Rattle.record.proofs.Same.{Both}
 use Rattle.reasons.specs.Reasons.{symbol_and_serial}

@@ -1,5 +1,4 @@
 use borrow.Author.Rules.{rules}
-use Prim.Native.Nat.{◌≤◌, ◌-◌}
 use Rattle.record.proofs.Corrected.{led_none}
 use Rattle.record.proofs.Moving.{lead_on, lead_here, lead_out}
 use Rattle.record.proofs.moved.lead.Goals as goal

@@ -1,5 +1,4 @@
 use borrow.Author.Rules.{rules}
-use Prim.Native.Nat.{◌≤◌, ◌-◌}
 use Rattle.record.proofs.Orders.{level_none, level_before, level_after, level_next, end_before, end_after, end_same}
 use Rattle.record.proofs.Moving.{moved_length}
 use Rattle.record.proofs.moved.shown_order.Goals as goal

@@ -1,5 +1,4 @@
 use borrow.Author.Rules.{rules}
-use Prim.Native.Nat.{◌≤◌, ◌-◌}
 use Rattle.record.proofs.Moving.{tail_none, tail_on, tail_here, tail_out}
 use Rattle.record.proofs.moved.tail.Goals as goal
 

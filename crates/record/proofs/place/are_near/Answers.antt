@@ -1,5 +1,4 @@
 use borrow.Author.Rules.{rules}
-use Prim.Native.Nat.{◌≤◌, ◌-◌}
 use Rattle.record.proofs.Sent.{farthest_none, farthest_next, farthest_end, within_plain}
 use Rattle.record.proofs.place.are_near.Goals as goal
 

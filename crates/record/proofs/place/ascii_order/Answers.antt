@@ -1,5 +1,4 @@
 use borrow.Author.Rules.{rules}
-use Prim.Native.Nat.{◌≤◌, ◌-◌}
 use Rattle.record.proofs.Orders.{level_none, end_before, end_after, end_same}
 use Rattle.record.proofs.Every.{value_length}
 use Rattle.record.proofs.Sent.{ascii_alike, ascii_next, ascii_before, ascii_after}

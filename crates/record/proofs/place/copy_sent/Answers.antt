@@ -1,5 +1,3 @@
-use Prim.Native.Nat.{◌≤◌, ◌-◌}
-use mathlib.Core.Path.{◌≡◌}
 use Rattle.record.proofs.Copies.{copied_none, copied_next, copied_all}
 use Rattle.record.proofs.Sent.{sent_length}
 use borrow.Author.Rules.{rules}

@@ -1,5 +1,4 @@
 use borrow.Author.Rules.{rules}
-use Prim.Native.Nat.{◌≤◌, ◌-◌}
 use Rattle.record.proofs.Every.{left_none, every_next, every_stop, every_end, every_whole}
 use Rattle.record.proofs.Sent.{within_plain, eq_none, ne_none}
 use Rattle.record.proofs.place.has_none.Goals as goal

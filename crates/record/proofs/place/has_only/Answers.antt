@@ -1,5 +1,4 @@
 use borrow.Author.Rules.{rules}
-use Prim.Native.Nat.{◌≤◌, ◌-◌}
 use borrow.Author.Tests.{eq-eqb, ne_eqb}
 use Rattle.record.specs.Tests.{only}
 use Rattle.record.proofs.Every.{left_none, every_next, every_stop, every_end, every_whole}

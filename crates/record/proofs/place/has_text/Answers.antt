@@ -1,6 +1,5 @@
 use borrow.Author.Rules.{rules}
-use Prim.Native.Nat.{◌≤◌, ◌-◌}
-use mathlib.Core.Path.{◌≡◌, refl}
+use mathlib.Core.Path.{refl}
 use Rattle.record.proofs.Same.{both_none, text_sizes, text_next, text_stop, text_end}
 use Rattle.record.proofs.Sent.{within_plain}
 use Rattle.record.proofs.place.has_text.Goals as goal

@@ -1,5 +1,4 @@
 use borrow.Author.Rules.{rules}
-use Prim.Native.Nat.{◌≤◌, ◌-◌}
 use Rattle.record.proofs.Every.{lowest_none, lowest_next, lowest_end}
 use Rattle.record.proofs.Sent.{within_plain}
 use Rattle.record.proofs.place.least_byte.Goals as goal

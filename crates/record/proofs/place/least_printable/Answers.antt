@@ -1,4 +1,3 @@
-use Prim.Native.Nat.{◌≤◌, ◌-◌}
 use Rattle.record.proofs.Sent.{low_none, low_next, low_end, within_plain}
 use borrow.Author.Rules.{rules}
 use Rattle.record.proofs.place.least_printable.Goals as goal

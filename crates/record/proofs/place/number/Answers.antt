@@ -1,7 +1,6 @@
 use borrow.Author.Rules.{rules}
 use native.Mathlib.Nat.{one-le-pow}
 use native.Mathlib.Omega.{arith}
-use Prim.Native.Nat.{◌≤◌, ◌-◌, ◌<◌, ◌^◌}
 use Rattle.record.proofs.Numbers.{read_none, read_next, read_end, room, grow}
 use Rattle.record.proofs.place.number.Goals as goal
 

@@ -1,5 +1,4 @@
 use borrow.Author.Rules.{rules}
-use Prim.Native.Nat.{◌≤◌, ◌-◌}
 use Rattle.record.proofs.Orders.{level_none, level_before, level_after, end_before, end_after, end_same}
 use Rattle.record.proofs.Sent.{sent_length, sent_level}
 use Rattle.record.proofs.place.sent_order.Goals as goal

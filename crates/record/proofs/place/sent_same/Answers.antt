@@ -1,6 +1,5 @@
 use borrow.Author.Rules.{rules}
-use Prim.Native.Nat.{◌≤◌, ◌-◌}
-use mathlib.Core.Path.{◌≡◌, sym, ◌∙◌}
+use mathlib.Core.Path.{sym, ◌∙◌}
 use Rattle.record.proofs.Every.{value_length}
 use Rattle.record.proofs.Sent.{within_plain}
 use Rattle.record.proofs.Same.{both_none, text_sizes, text_next, text_stop, text_end}

@@ -1,6 +1,6 @@
 use Prim.Native.Nat.{◌≤◌, ◌-◌}
 use lib.ListN.{length}
-use mathlib.Core.Path.{◌≡◌, ◌∙◌}
+use mathlib.Core.Path.{◌≡◌}
 use Rattle.record.specs.Place.{sent}
 use Rattle.record.proofs.Same.{Both}
 use Rattle.record.proofs.place.sent_same.Given as goal

@@ -1,5 +1,4 @@
 use Rattle.page.proofs.Shown.{shown_least, shown_most}
-use Prim.Native.Nat.{◌≤◌, ◌-◌, ◌*◌}
 use Rattle.repeats.proofs.Sought.{block_begun, block_hit, block_next, block_end}
 use Rattle.repeats.proofs.Visits.{filling_tabled}
 use borrow.Author.Rules.{rules}

@@ -1,6 +1,4 @@
 use Rattle.page.proofs.Shown.{shown_records}
-use Prim.Native.Nat.{◌-◌, ◌/◌}
-use mathlib.Core.Path.{◌≡◌}
 use Rattle.repeats.proofs.Sought.{sought_none, sought_next, sought_hit, sought_miss}
 use borrow.Author.Rules.{rules}
 use Rattle.repeats.proofs.blocks.first_by_blocks.Goals as goal

@@ -1,4 +1,3 @@
-use Prim.Native.Nat.{◌-◌}
 use Rattle.repeats.proofs.Flagging.{cleared_none, cleared_length, cleared_next, cleared_all}
 use borrow.Author.Rules.{rules}
 use Rattle.repeats.proofs.flags.clear.Goals as goal

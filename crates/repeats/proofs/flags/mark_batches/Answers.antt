@@ -1,6 +1,4 @@
 use Rattle.page.proofs.Shown.{shown_least, shown_records}
-use mathlib.Core.Path.{◌≡◌}
-use Prim.Native.Nat.{◌-◌, ◌/◌}
 use Rattle.repeats.proofs.Flagging.{index_none, marked_none, marked_length, marked_all}
 use borrow.Author.Rules.{rules}
 use Rattle.repeats.proofs.flags.mark_batches.Goals as goal

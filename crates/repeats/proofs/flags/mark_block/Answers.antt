@@ -1,5 +1,3 @@
-use Prim.Native.Nat.{◌-◌, ◌*◌, ◌/◌, ◌≤◌}
-use mathlib.Core.Path.{◌≡◌}
 use Rattle.page.proofs.Shown.{shown_records, shown_most}
 use Rattle.repeats.proofs.Flagging.{marking_begun, index_few, flag_fits, marking_next, marking_length, marking_end, kept_end}
 use Rattle.repeats.proofs.Visits.{filling_tabled}

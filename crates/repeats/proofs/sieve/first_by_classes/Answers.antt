@@ -1,6 +1,4 @@
 use Rattle.page.proofs.Shown.{shown_records}
-use Prim.Native.Nat.{◌≤◌, ◌<◌, ◌-◌, ◌/◌}
-use mathlib.Core.Path.{◌≡◌}
 use Rattle.repeats.proofs.Passes.{best_first, best_next, best_hit, best_miss}
 use borrow.Author.Rules.{rules}
 use Rattle.repeats.proofs.sieve.first_by_classes.Goals as goal

@@ -1,4 +1,3 @@
-use mathlib.Core.Path.{◌≡◌}
 use Rattle.repeats.proofs.Marks.{giving_begun, giving_on, giving_end}
 use borrow.Author.Rules.{rules}
 use Rattle.repeats.proofs.sieve.give_marks.Goals as goal

@@ -1,4 +1,3 @@
-use mathlib.Core.Path.{◌≡◌}
 use Rattle.record.proofs.Chain.{reads}
 use Rattle.repeats.proofs.Marks.{marks_begun, marks_missed, marks_met, marks_end}
 use borrow.Author.Rules.{rules}

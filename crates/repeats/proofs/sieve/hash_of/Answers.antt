@@ -1,5 +1,3 @@
-use Prim.Native.Nat.{◌≤◌, ◌-◌}
-use mathlib.Core.Path.{◌≡◌}
 use Rattle.repeats.proofs.Hashes.{hash_none, hash_next, hash_end}
 use borrow.Author.Rules.{rules}
 use Rattle.repeats.proofs.sieve.hash_of.Goals as goal

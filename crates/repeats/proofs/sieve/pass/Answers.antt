@@ -1,5 +1,3 @@
-use Prim.Native.Nat.{◌≤◌, ◌-◌}
-use mathlib.Core.Path.{◌≡◌}
 use Rattle.repeats.proofs.Classes.{marked_none}
 use Rattle.repeats.proofs.Passes.{clean_none, clean_next, tried_budget, passed_hit, passed_all}
 use borrow.Author.Rules.{rules}

@@ -1,5 +1,3 @@
-use Prim.Native.Nat.{◌≤◌, ◌-◌}
-use mathlib.Core.Path.{◌≡◌}
 use Rattle.record.proofs.Chain.{reads}
 use Rattle.repeats.proofs.Walks.{ahead_none, ahead_next, ahead_stop, ahead_end, not_of}
 use borrow.Author.Rules.{rules}

@@ -1,4 +1,3 @@
-use Prim.Native.Nat.{◌-◌, ◌≤◌}
 use Rattle.tables.proofs.Comparing.{agreed_none, agreed_next, agreed_stop, agreed_end}
 use borrow.Author.Rules.{rules}
 use Rattle.tables.proofs.kind.first_unlike.Goals as goal

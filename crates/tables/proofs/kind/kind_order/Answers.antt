@@ -1,4 +1,3 @@
-use Prim.Native.Nat.{◌-◌, ◌≤◌}
 use Rattle.tables.proofs.Comparing.{has_start, has_end, left_from, left_before, left_after, left_next, left_end}
 use borrow.Author.Rules.{rules}
 use Rattle.tables.proofs.kind.kind_order.Goals as goal

@@ -1,5 +1,5 @@
 use Prim.Native.Nat.{◌-◌, ◌<◌}
-use Rattle.examples.proofs.kinds.number_accounts.Given as goal
+use Rattle.examples.proofs.account_kinds.number_accounts.Given as goal
 
 abbrev pub invariant-loop-place : goal.invariant-loop-place
 invariant-loop-place l = l.number < l.kinds
