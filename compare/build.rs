@@ -1,4 +1,4 @@
-//! Links the proved judge, target/staticlib/libjudge.a, which `rt staticlib judge` writes.
+//! Links the proved judge, target/staticlib/libjudge.a, which `build-library` writes.
 use std::{env, path::Path, process::exit};
 
 fn main() {
@@ -7,7 +7,7 @@ fn main() {
     let library = Path::new(&folder).join("libjudge.a");
     if !library.is_file() {
         eprintln!(
-            "{}: not found; `rt staticlib judge` in the repository's root writes it",
+            "{}: not found; `./build-library` writes it",
             library.display()
         );
         exit(1);

@@ -1,6 +1,6 @@
 /* A judge of Standard Reporting Format (SRF 2.0.1) files, for C99 and C++.
  *
- * Link target/staticlib/libjudge.a (x86-64), which `rt staticlib judge` writes:
+ * Link target/staticlib/libjudge.a (x86-64), which ./build-library writes:
  *
  *     cc -I include CLIENT.c target/staticlib/libjudge.a
  *
