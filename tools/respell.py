@@ -1,7 +1,7 @@
 #!/usr/bin/env python3
 """Brings the names that this repository declares in .antt files to one spelling: words in snake case.
 
-usage: python3 tools/respell.py          at the top, after /opt/rattle/port/port.py: rewrites specs/, proofs/ and the clauses of src/
+usage: python3 tools/respell.py          at the top, after the kit's port/port.py: rewrites specs/, proofs/ and the clauses of src/
        python3 tools/respell.py --list   prints OLD NEW for each name, and changes nothing
 
 Types and modules keep their camel case. Names of src/, of the library and of generated files are left as they are.
