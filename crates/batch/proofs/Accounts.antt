@@ -16,7 +16,7 @@ use Rattle.nesting.specs.Division.{Record, All, Own, Coded, DT, Payment, Batch, 
 use Rattle.nesting.proofs.Coding.{of_bytes, lettered}
 use Rattle.kinds.specs.Kinds.{kind, is_account, kinds, different, crowded}
 use Rattle.kinds.proofs.Different.{different_few, one_kind, few_uncrowded}
-use Rattle.reasons.specs.Findings.{found}
+use Rattle.reasons.specs.Findings.{sound, found}
 use Rattle.batch.specs.Batch.{account_count, account_kinds, too_many}
 
 -- a record with another code has none, and a DT its own
@@ -67,7 +67,7 @@ pub few_accounts : (ps : List Payment) → account_count ps ≤ 1000 → crowded
 few_accounts ps h = few_uncrowded (account_kinds ps) (omega (arith, few_kinds ps))
 
 -- and a batch with one account code is never rejected for 12, however many DT it has (02 W1)
-pub one_code : (k : List ℕ) (n : ℕ) (ps : List Payment) → account_kinds ps ≡ replicate (account_count ps) k → too_many n ps ≡ found 0 n 76
+pub one_code : (k : List ℕ) (n : ℕ) (ps : List Payment) → account_kinds ps ≡ replicate (account_count ps) k → too_many n ps ≡ found sound n 76
 unfolding too_many choose
 one_code k n ps e =
     let f : crowded (account_kinds ps) ≡ false = rw e (few_uncrowded _ (omega (arith, one_kind k (account_count ps)))) in

@@ -1,5 +1,8 @@
 -- The walk over the records of a legal batch ends with the first of the batch's findings, its number of payments and its total.
 -- Assumes nothing.
+use Rattle.reasons.specs.declared.Reason.TheVariants.{Crowded}
+use Rattle.reasons.specs.Findings.{Checked}
+use Rattle.std.specs.Prelude.{Option, Err}
 use mathlib.Core.Path.{◌≡◌, refl, sym, ap, ◌∙◌}
 use mathlib.Core.Bool.{Bool, false}
 use mathlib.Core.List.{List, [], ◌∷◌, ◌++◌, map, append-nil, append_assoc}
@@ -16,7 +19,7 @@ use Rattle.record.specs.Value.{held}
 use Rattle.record.specs.Codes.{letter_byte, code_bytes, code_of}
 use Rattle.money.specs.Money.{split, total}
 use Rattle.money.proofs.Amounts.{worth_split}
-use Rattle.calendar.specs.declared.Today.{Today}
+use Rattle.calendar.specs.declared.Day.{Day}
 use Rattle.book.specs.Book.{Contents}
 use Rattle.nesting.specs.Division.{Record, All, DX, DT, DP, Own, Payment, Batch, payment_onto, payments_onto, LegalPayment, LegalBatch}
 use Rattle.nesting.specs.Paid.{paid, paid_by}
@@ -40,9 +43,9 @@ unfolding total
 total_more f [] p = omega arith
 total_more f (q ∷ ps) p = rw (total_more f ps p) (omega arith)
 
-module _ (book : Contents) (today : Today) (crowded : Bool) where
+module _ (book : Contents) (today : Option Day) (crowded : Bool) where
   -- what the walk knows after the earlier payments of a batch, of which it was told so: its header is record k, and with the open payment closed the findings come to g
-  record Knows (h : Record) (k : ℕ) (earlier : List Payment) (g : Finding) (s : State) : Type 0 where
+  record Knows (h : Record) (k : ℕ) (earlier : List Payment) (g : Checked Finding) (s : State) : Type 0 where
     header : s.header ≡ head book today crowded k h
     payments : s.payments ≡ length earlier
     total : s.total ≡ split (paid_by earlier)
@@ -50,7 +53,7 @@ module _ (book : Contents) (today : Today) (crowded : Bool) where
     finding : after s.finding (ended s.payment) ≡ g
 
   -- what the rules of a header find
-  abbrev begin : Bool → ℕ → Record → List Finding
+  abbrev begin : Bool → ℕ → Record → List (Checked Finding)
   begin repeats n h = findings (context today h repeats false (header_codes book h) []) n h (rules_for (letter_of h) header)
 
   at_header : (repeats : Bool) (n : ℕ) (h : Record) → Knows h n [] (after sound (begin repeats n h)) (opening book today repeats crowded n h)
@@ -58,14 +61,14 @@ module _ (book : Contents) (today : Today) (crowded : Bool) where
   at_header repeats n h = record { header = refl; payments = refl; total = refl; accounts = refl; finding = empty_end _ n _ refl }
 
   -- what is found at the trailer, record n
-  abbrev ends : Record → ℕ → List Payment → ℕ → Record → List Finding
+  abbrev ends : Record → ℕ → List Payment → ℕ → Record → List (Checked Finding)
   ends h k ps n r =
-      found (choose crowded 12 0) k 76
+      found (choose crowded (Err Crowded) sound) k 76
       ∷ (findings (context today h false false no_codes ps) n r (rules_for (letter_of h) trailer)
       ++ summary k h ps
       ∷ [])
 
-  at_trailer : (h : Record) (k : ℕ) (ps : List Payment) (g : Finding) (s : State) → Knows h k ps g s → (n : ℕ) (r : Record)
+  at_trailer : (h : Record) (k : ℕ) (ps : List Payment) (g : Checked Finding) (s : State) → Knows h k ps g s → (n : ℕ) (r : Record)
       → let t = trailed s n r in
       (t.finding ≡ after g (ends h k ps n r)) × (t.payments ≡ length ps) × (t.total ≡ split (paid_by ps)) × (t.accounts ≡ account_count ps)
   unfolding trailed last knowing context_of head context letter_of summary trailer
@@ -74,19 +77,19 @@ module _ (book : Contents) (today : Today) (crowded : Bool) where
       (rw (w.header, w.payments, w.total, w.finding, e) (simp worth_split), w.payments, w.total, w.accounts)
 
   -- the walk at a detail that follows the earlier payments
-  abbrev begun : Record → ℕ → List Payment → Finding → ℕ → Payment → Context → State
+  abbrev begun : Record → ℕ → List Payment → Checked Finding → ℕ → Payment → Context → State
   begun h k earlier g n p c =
       state (after g (findings c n p.detail (rules_for (letter_of h) detail))) (head book today crowded k h) (opened n c (split (paid p)))
       (length earlier + 1) (split (paid_by earlier + paid p)) (account_count earlier)
 
-  at_detail : (h : Record) (k : ℕ) (earlier : List Payment) (g : Finding) (s : State) → Knows h k earlier g s
+  at_detail : (h : Record) (k : ℕ) (earlier : List Payment) (g : Checked Finding) (s : State) → Knows h k earlier g s
       → (n : ℕ) (p : Payment) (repeats : Bool)
       → detailed book s n p.detail repeats ≡ begun h k earlier g n p (detail_context book today h repeats earlier p.detail)
   unfolding detailed paying_context context_of payer_in head context detail_context payer letter_of paid
   at_detail h k earlier g s w n p repeats = rw (w.header, w.payments, w.total, w.accounts, w.finding) (simp worth_split)
 
   -- what the records after a detail find
-  abbrev others : Letter → Context → Finding → ℕ → Payment → Finding
+  abbrev others : Letter → Context → Checked Finding → ℕ → Payment → Checked Finding
   others l c f n p =
       after
       (after (after f (each (same c) (rules_for l party) (n + 1) p.parties))
@@ -94,7 +97,7 @@ module _ (book : Contents) (today : Today) (crowded : Bool) where
       (each_procurement l c (n + 1 + length p.parties + length p.accounts) p.procurements)
 
   -- the end of a payment
-  closed : (g : Finding) (l : Letter) (c : Context) (n : ℕ) (p : Payment)
+  closed : (g : Checked Finding) (l : Letter) (c : Context) (n : ℕ) (p : Payment)
       → after (others l c (after g (findings c n p.detail (rules_for l detail))) n p) (ended (end_of book n c p))
       ≡ after g (payment book l c n p)
   unfolding payment
@@ -111,7 +114,7 @@ module _ (book : Contents) (today : Today) (crowded : Bool) where
     run_step n s r rs c d e = ap (λ (t : State). walk (n + 1) t rs) (ap (λ (k : Code). step_of book k s n r (marks n)) d ∙ e)
 
     -- records of one code, each of which adds to the findings, to the payment and to the count of DT
-    run_group : (c : Code) (finds : Header → Open → ℕ → Record → List Finding) (adds : Open → Record → Open) (k : ℕ)
+    run_group : (c : Code) (finds : Header → Open → ℕ → Record → List (Checked Finding)) (adds : Open → Record → Open) (k : ℕ)
         → ((s : State) (n : ℕ) (r : Record)
         → step_of book c s n r (marks n)
         ≡ knowing s (after s.finding (finds s.header s.payment n r)) (adds s.payment r) (s.accounts + k))
@@ -139,7 +142,7 @@ module _ (book : Contents) (today : Today) (crowded : Bool) where
         (knowing s (after s.finding (each (same s.payment.context) (rules_for s.header.letter party) n xs)) s.payment s.accounts) ys
     unfolding code_bytes step_of partied
     run_parties id n s xs os ys =
-        let finds : Header → Open → ℕ → Record → List Finding = λ h. find_by same (rules_for h.letter party) in
+        let finds : Header → Open → ℕ → Record → List (Checked Finding) = λ h. find_by same (rules_for h.letter party) in
         let found = found_each same (rules_for s.header.letter party) plus_party (λ o r. refl) s.payment n xs in
         let count : s.accounts + 0 * length xs ≡ s.accounts = omega arith in
         run_group code.Party finds plus_party 0
@@ -209,10 +212,10 @@ module _ (book : Contents) (today : Today) (crowded : Bool) where
       known : Known end
 
     -- what the division says of a payment that follows the earlier ones
-    abbrev own_of : Record → List Payment → ℕ → Payment → List Finding
+    abbrev own_of : Record → List Payment → ℕ → Payment → List (Checked Finding)
     own_of h earlier n p = payment book (letter_of h) (detail_context book today h (marks n) earlier p.detail) n p
 
-    run_payment : (h : Record) (k : ℕ) (earlier : List Payment) (g : Finding) (s : State) → Knows h k earlier g s
+    run_payment : (h : Record) (k : ℕ) (earlier : List Payment) (g : Checked Finding) (s : State) → Knows h k earlier g s
         → (l : Letter) (n : ℕ) (p : Payment) → LegalPayment (letter_byte l) p → (ys : List Record)
         → Comes n s (payment_onto p ys) (n + size p) ys (Knows h k (earlier ++ p ∷ []) (after g (own_of h earlier n p)))
     unfolding knowing opened head letter_of paid_by account_count step_of code_bytes
@@ -235,7 +238,7 @@ module _ (book : Contents) (today : Today) (crowded : Bool) where
         }
 
     -- one payment of i records, then the others, of j records
-    run_on : (h : Record) (k : ℕ) (earlier : List Payment) (p : Payment) (ps : List Payment) (g : Finding) (own more : List Finding)
+    run_on : (h : Record) (k : ℕ) (earlier : List Payment) (p : Payment) (ps : List Payment) (g : Checked Finding) (own more : List (Checked Finding))
         (n i j : ℕ) (s : State) (rs ts ys : List Record)
         (one : Comes n s rs (n + i) ts (Knows h k (earlier ++ p ∷ []) (after g own)))
         → Comes (n + i) one.end ts (n + i + j) ys (Knows h k ((earlier ++ p ∷ []) ++ ps) (after (after g own) more))
@@ -249,7 +252,7 @@ module _ (book : Contents) (today : Today) (crowded : Bool) where
         }
 
     -- payments, one after the other
-    run_payments : (h : Record) (k : ℕ) (earlier : List Payment) (g : Finding) (s : State) → Knows h k earlier g s
+    run_payments : (h : Record) (k : ℕ) (earlier : List Payment) (g : Checked Finding) (s : State) → Knows h k earlier g s
         → (l : Letter) (n : ℕ) (ps : List Payment) → All (LegalPayment (letter_byte l)) ps → (ys : List Record)
         → Comes n s (payments_onto ps ys) (n + sizes ps) ys (Knows h k (earlier ++ ps) (after g (marked_payments book today marks h n earlier ps)))
     unfolding marked_payments sizes total
@@ -261,7 +264,7 @@ module _ (book : Contents) (today : Today) (crowded : Bool) where
         (run_payments h k (earlier ++ p ∷ []) _ one.end one.known l (n + size p) ps legal.1 ys)
 
 -- a batch
-pub adequate : (book : Contents) (today : Today) (repeats crowded : Bool) (marks : ℕ → Bool) (n : ℕ) (b : Batch) → LegalBatch b
+pub adequate : (book : Contents) (today : Option Day) (repeats crowded : Bool) (marks : ℕ → Bool) (n : ℕ) (b : Batch) → LegalBatch b
     → (s : State) → s ≡ run book marks (n + 1) (opening book today repeats crowded n b.header) (payments_onto b.payments (b.trailer ∷ []))
     → (s.finding ≡ first (marked_findings book today repeats crowded marks n b)) × (s.payments ≡ length b.payments) × (s.total ≡ split (paid_by b.payments))
     × (s.accounts ≡ account_count b.payments)

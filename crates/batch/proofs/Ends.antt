@@ -1,5 +1,9 @@
 -- What the walk finds in a payment and knows of it at its end is what the division says. Nothing here walks.
 -- Assumes nothing.
+use Rattle.reasons.specs.declared.Reason.TheVariants.{Accounts, Blank, Lacking, Procurements, Shape}
+use Rattle.reasons.specs.declared.Reason.{Reason}
+use Rattle.reasons.specs.Findings.{Checked, sound}
+use Rattle.std.specs.Prelude.{unwrap_or, Err, Ok}
 use mathlib.Core.Path.{◌≡◌, refl, sym, ap, ◌∙◌}
 use mathlib.Core.Bool.{Bool, true, false}
 use mathlib.Core.List.{List, [], ◌∷◌, ◌++◌, map}
@@ -55,7 +59,7 @@ unfoldable pub grown : (Open → Record → Open) → Open → List Record → O
 grown adds o [] = o
 grown adds o (r ∷ rs) = grown adds (adds o r) rs
 
-unfoldable pub found_in : (Open → ℕ → Record → List Finding) → (Open → Record → Open) → Open → ℕ → List Record → List Finding
+unfoldable pub found_in : (Open → ℕ → Record → List (Checked Finding)) → (Open → Record → Open) → Open → ℕ → List Record → List (Checked Finding)
 found_in finds adds o n [] = []
 found_in finds adds o n (r ∷ rs) = finds o n r ++ found_in finds adds (adds o r) (n + 1) rs
 
@@ -140,13 +144,13 @@ procured_end n c a es (p ∷ ps) =
     sum = rw (worth_split, from_none) (added_total (all_cents vs) (cents (procured_by p)))
 
 -- 10
-unless : (t b : Bool) → ◌≡◌ {A = ℕ} (choose t 0 (choose b 0 10)) (choose (choose t true b) 0 10)
+unless : (t b : Bool) → ◌≡◌ {A = Checked Reason} (choose t sound (choose b sound (Err Procurements))) (choose (choose t true b) sound (Err Procurements))
 unfolding choose
 unless true b = refl
 unless false b = refl
 
 procurement_end : (n : ℕ) (c : Context) (a : ℕ) (es : List Entry) (vs : List (List ℕ))
-    → procurement_reason (standing n c a es vs) ≡ choose (procures a vs) 0 10
+    → procurement_reason (standing n c a es vs) ≡ choose (procures a vs) sound (Err Procurements)
 unfolding procurement_reason procures lone_blank first_blank all_cents total choose
 procurement_end n c a es [] = refl
 procurement_end n c a es (v ∷ []) = simp worth_split (rw (← none_more (cents v)) (unless (blank v) (eqb (cents v) a)))
@@ -158,30 +162,27 @@ unfolding total side choose
 one_side true m = omega arith
 one_side false m = omega arith
 
-account_end : (n : ℕ) (c : Context) (a : ℕ) (es : List Entry) (vs : List (List ℕ)) → account_reason (standing n c a es vs) ≡ choose (balances a es) 0 9
+account_end : (n : ℕ) (c : Context) (a : ℕ) (es : List Entry) (vs : List (List ℕ)) → account_reason (standing n c a es vs) ≡ choose (balances a es) sound (Err Accounts)
 unfolding account_reason balances comes_to choose
 account_end n c a [] vs = refl
-account_end n c a (e ∷ []) vs = simp worth_split (ap (λ (k : ℕ). choose (eqb k a) 0 9) (one_side e.0 e.1))
+account_end n c a (e ∷ []) vs = simp worth_split (ap (λ (k : ℕ). choose (eqb k a) sound (Err Accounts)) (one_side e.0 e.1))
 account_end n c a (e ∷ d ∷ es) vs = rw (not_none (suc (length es)), not_one (length es)) (simp worth_split)
 
 -- a field that is sound adds nothing
-skip : (f : Finding) (n k : ℕ) (xs : List Finding) → after f (found 0 n k ∷ xs) ≡ after f xs
-unfolding after noted choose
-skip f n k xs = ap (λ (u : Finding). after u xs) (either (eqb f.reason 0))
-  where
-    either : (t : Bool) → choose t f f ≡ f
-    either true = refl
-    either false = refl
+skip : (f : Checked Finding) (n k : ℕ) (xs : List (Checked Finding)) → after f (found sound n k ∷ xs) ≡ after f xs
+unfolding after noted found
+skip (Ok tt) n k xs = refl
+skip (Err f) n k xs = refl
 
-pub after_none : (f : Finding) → after f [] ≡ f
+pub after_none : (f : Checked Finding) → after f [] ≡ f
 unfolding after
 after_none f = refl
 
 -- nothing is wrong with a payment of nothing that no reporter makes
-pub empty_end : (f : Finding) (n : ℕ) (c : Context) → c.reporter ≡ false → after f (ended (opened n c (split 0))) ≡ f
+pub empty_end : (f : Checked Finding) (n : ℕ) (c : Context) → c.reporter ≡ false → after f (ended (opened n c (split 0))) ≡ f
 unfolding ended opened account_reason procurement_reason lack_reason choose ◌and◌
 empty_end f n c e =
-    rw e (skip f n 87 (found 0 n 96 ∷ found 0 n 76 ∷ []) ∙ skip f n 96 (found 0 n 76 ∷ []) ∙ skip f n 76 [] ∙ after_none f)
+    rw e (skip f n 87 (found sound n 96 ∷ found sound n 76 ∷ []) ∙ skip f n 96 (found sound n 76 ∷ []) ∙ skip f n 76 [] ∙ after_none f)
 
 -- the rules of a table that is every letter's are the same for each
 every_letter : (l : Letter) → among l any_letter ≡ true
@@ -198,25 +199,25 @@ letterless l [] os = refl
 letterless l (r ∷ rs) os = rw (os.0, every_letter l, every_letter N, letterless l rs os.1)
 
 -- a first DP that may be blank, and may not once there is a second
-own_first : (f : Finding) (n : ℕ) (v : List ℕ) (xs : List Finding)
-    → after f (found (if_number v) n 96 ∷ found (choose (blank v) 1 0) n 96 ∷ xs) ≡ after f (found (number v) n 96 ∷ xs)
+own_first : (f : Checked Finding) (n : ℕ) (v : List ℕ) (xs : List (Checked Finding))
+    → after f (found (if_number v) n 96 ∷ found (choose (blank v) (Err Blank) sound) n 96 ∷ xs) ≡ after f (found (number v) n 96 ∷ xs)
 unfolding if_number number choose
 own_first f n v xs = go (blank v)
   where
-    filled : Finding
-    filled = found (choose (digits v) 0 2) n 96
+    shape : Checked Reason
+    shape = choose (digits v) sound (Err Shape)
 
     go : (t : Bool)
-        → after f (found (choose t 0 filled.reason) n 96 ∷ found (choose t 1 0) n 96 ∷ xs) ≡ after f (found (choose t 1 filled.reason) n 96 ∷ xs)
-    go true = skip f n 96 (found 1 n 96 ∷ xs)
-    go false = after_append f (filled ∷ []) (found 0 n 96 ∷ xs) ∙ skip (after f (filled ∷ [])) n 96 xs ∙ sym (after_append f (filled ∷ []) xs)
+        → after f (found (choose t sound shape) n 96 ∷ found (choose t (Err Blank) sound) n 96 ∷ xs) ≡ after f (found (choose t (Err Blank) shape) n 96 ∷ xs)
+    go true = skip f n 96 (found (Err Blank) n 96 ∷ xs)
+    go false = after_append f (found shape n 96 ∷ []) (found sound n 96 ∷ xs) ∙ skip (after f (found shape n 96 ∷ [])) n 96 xs ∙ sym (after_append f (found shape n 96 ∷ []) xs)
 
 -- what a record of the payment knows where nothing of its own is looked up: what the payment's records know
 abbrev pub same : Context → Record → Context
 same c r = c
 
 -- what rules find in a record of the payment, with what it knows
-abbrev pub find_by : (Context → Record → Context) → List Rule → Open → ℕ → Record → List Finding
+abbrev pub find_by : (Context → Record → Context) → List Rule → Open → ℕ → Record → List (Checked Finding)
 find_by knows rules o n r = findings (knows o.context r) n r rules
 
 -- records of one table
@@ -225,7 +226,7 @@ pub found_each : (knows : Context → Record → Context) (rules : List Rule) (a
 unfolding found_in each
 found_each knows rules adds keeps o n [] = refl
 found_each knows rules adds keeps o n (r ∷ rs) =
-    ap (λ (xs : List Finding). find_by knows rules o n r ++ xs)
+    ap (λ (xs : List (Checked Finding)). find_by knows rules o n r ++ xs)
     (found_each knows rules adds keeps (adds o r) (n + 1) rs ∙ ap (λ (c : Context). each (knows c) rules (n + 1) rs) (keeps o r))
 
 -- the tables of a DP have one row
@@ -239,20 +240,20 @@ row o n p = refl
 
 -- what a first DP finds, a second, and a later one
 next_first : (o : Open) (n : ℕ) (p : Record) → o.procurements ≡ 0
-    → next_procurement o n p ≡ found 0 (n - 1) 96 ∷ find_by same (rules_for N lone_procurement) o n p
+    → next_procurement o n p ≡ found sound (n - 1) 96 ∷ find_by same (rules_for N lone_procurement) o n p
 unfolding next_procurement lone_blank choose
 next_first o n p e = rw e
 
 next_second : (o : Open) (n : ℕ) (p q : Record) → o.procurements ≡ 0
     → next_procurement (plus_procurement o p) (n + 1) q
-    ≡ found (choose (blank (procured_by p)) 1 0) n 96 ∷ find_by same (rules_for N procurement) o (n + 1) q
+    ≡ found (choose (blank (procured_by p)) (Err Blank) sound) n 96 ∷ find_by same (rules_for N procurement) o (n + 1) q
 unfolding next_procurement lone_blank with_procurement choose
 next_second o n p q e =
     let b : n + 1 - 1 ≡ n = omega arith in
     rw (e, b)
 
 next_later : (o : Open) (n : ℕ) (p : Record) → 2 ≤ o.procurements
-    → next_procurement o n p ≡ found 0 (n - 1) 96 ∷ find_by same (rules_for N procurement) o n p
+    → next_procurement o n p ≡ found sound (n - 1) 96 ∷ find_by same (rules_for N procurement) o n p
 unfolding next_procurement lone_blank choose
 next_later o n p h =
     let a : eqb o.procurements 0 ≡ false = ne_eqb o.procurements 0 (λ (q : o.procurements ≡ 0). omega (arith, h, q)) in
@@ -260,49 +261,49 @@ next_later o n p h =
     rw (a, b)
 
 -- DP of one payment
-abbrev next_in : Open → ℕ → List Record → List Finding
+abbrev next_in : Open → ℕ → List Record → List (Checked Finding)
 next_in = found_in (next_procurement) plus_procurement
 
 -- from the third on
-found_later : (f : Finding) (o : Open) (n : ℕ) (ps : List Record) → 2 ≤ o.procurements
+found_later : (f : Checked Finding) (o : Open) (n : ℕ) (ps : List Record) → 2 ≤ o.procurements
     → after f (next_in o n ps) ≡ after f (each (same o.context) (rules_for N procurement) n ps)
 unfolding found_in each with_procurement
 found_later f o n [] h = refl
 found_later f o n (p ∷ ps) h =
     let own = find_by same (rules_for N procurement) o n p in
     let more = next_in (plus_procurement o p) (n + 1) ps in
-    ap (λ (xs : List Finding). after f (xs ++ more)) (next_later o n p h)
+    ap (λ (xs : List (Checked Finding)). after f (xs ++ more)) (next_later o n p h)
     ∙ skip f (n - 1) 96 (own ++ more)
     ∙ after_append f own more
     ∙ found_later (after f own) (plus_procurement o p) (n + 1) ps (omega (arith, h))
     ∙ sym (after_append f own (each (same o.context) (rules_for N procurement) (n + 1) ps))
 
 -- two or more
-found_several : (f : Finding) (o : Open) (n : ℕ) (p q : Record) (ps : List Record) → o.procurements ≡ 0
+found_several : (f : Checked Finding) (o : Open) (n : ℕ) (p q : Record) (ps : List Record) → o.procurements ≡ 0
     → after f (next_in o n (p ∷ q ∷ ps)) ≡ after f (each (same o.context) (rules_for N procurement) n (p ∷ q ∷ ps))
 unfolding found_in each with_procurement
 found_several f o n p q ps e =
     let own = find_by same (rules_for N procurement) o (n + 1) q in
-    let begun = found (if_number (procured_by p)) n 96 ∷ found (choose (blank (procured_by p)) 1 0) n 96 ∷ own in
+    let begun = found (if_number (procured_by p)) n 96 ∷ found (choose (blank (procured_by p)) (Err Blank) sound) n 96 ∷ own in
     let next = plus_procurement (plus_procurement o p) q in
     let more = next_in next (n + 1 + 1) ps in
     let rest = each (same o.context) (rules_for N procurement) (n + 1 + 1) ps in
     (λ i. after f (next_first o n p e i ++ (next_second o n p q e i ++ more)))
     ∙ skip f (n - 1) 96 _
-    ∙ (λ i. after f (lone_row o n p i ++ (found (choose (blank (procured_by p)) 1 0) n 96 ∷ (own ++ more))))
+    ∙ (λ i. after f (lone_row o n p i ++ (found (choose (blank (procured_by p)) (Err Blank) sound) n 96 ∷ (own ++ more))))
     ∙ after_append f begun more
     ∙ found_later (after f begun) next (n + 1 + 1) ps (omega (arith, e))
     ∙ sym (after_append f begun rest)
     ∙ own_first f n (procured_by p) (own ++ rest)
-    ∙ ap (λ (xs : List Finding). after f (xs ++ (own ++ rest))) (sym (row o n p))
+    ∙ ap (λ (xs : List (Checked Finding)). after f (xs ++ (own ++ rest))) (sym (row o n p))
 
 -- any number
-pub found_procurements : (l : Letter) (f : Finding) (o : Open) (n : ℕ) (ps : List Record) → o.procurements ≡ 0
+pub found_procurements : (l : Letter) (f : Checked Finding) (o : Open) (n : ℕ) (ps : List Record) → o.procurements ≡ 0
     → after f (found_in (next_procurement) plus_procurement o n ps) ≡ after f (each_procurement l o.context n ps)
 unfolding found_in each each_procurement procurement lone_procurement
 found_procurements l f o n [] e = refl
 found_procurements l f o n (p ∷ []) e =
-    ap (λ (xs : List Finding). after f (xs ++ [])) (next_first o n p e)
+    ap (λ (xs : List (Checked Finding)). after f (xs ++ [])) (next_first o n p e)
     ∙ skip f (n - 1) 96 _
     ∙ ap (λ (rs : List Rule). after f (each (same o.context) rs n (p ∷ []))) (letterless l lone_procurement (refl, tt))
 found_procurements l f o n (p ∷ q ∷ ps) e =
@@ -311,7 +312,7 @@ found_procurements l f o n (p ∷ q ∷ ps) e =
 
 module _ (book : Contents) where
   abbrev pub plus_account : Open → Record → Open
-  plus_account o t = with_account o (betc book t).flagged (cents (held t account_amount))
+  plus_account o t = with_account o (unwrap_or (betc book t) false) (cents (held t account_amount))
 
   -- DT add to their count and to the signed sum
   accounts_counted : (o : Open) (ts : List Record)
@@ -345,7 +346,7 @@ module _ (book : Contents) where
 
   -- 11
   lack_end : (n : ℕ) (c : Context) (a : ℕ) (ts : List Record) (vs : List (List ℕ))
-      → lack_reason (standing n c a (map (entry_of book) ts) vs) ≡ choose (c.reporter and no_records ts) 11 0
+      → lack_reason (standing n c a (map (entry_of book) ts) vs) ≡ choose (c.reporter and no_records ts) (Err Lacking) sound
   unfolding lack_reason no_records
   lack_end n c a [] vs = refl
   lack_end n c a (t ∷ ts) vs = rw (not_none (length (map (entry_of book) ts)))

@@ -1,9 +1,10 @@
 -- The state at the end of the walk gives the row of the batch.
 -- Assumes nothing.
+use Rattle.std.specs.Prelude.{Option, Some, None}
 use mathlib.Core.Path.{◌≡◌, refl, sym, ap, ◌∙◌}
 use mathlib.Core.Bool.{Bool, true, false, true≢false}
 use mathlib.Core.List.{List, [], ◌∷◌, ◌++◌, tail}
-use Prim.Native.Nat.{ℕ, suc, ◌+◌, ◌*◌, ◌-◌, ◌/◌, ◌≤◌, ◌<◌}
+use Prim.Native.Nat.{ℕ, suc, ◌+◌, ◌*◌, ◌-◌, ◌/◌, ◌≤◌}
 use native.Mathlib.Omega.{arith}
 use borrow.Author.Tests.{ltb-false}
 use lib.Dec.{ltb}
@@ -13,14 +14,12 @@ use Rattle.record.specs.Choice.{◌and◌, ◌or◌, choose}
 use Rattle.page.specs.CodePage.{shown}
 use Rattle.record.specs.Value.{seen}
 use Rattle.page.proofs.Shown.{shown_take}
-use Rattle.calendar.specs.declared.Today.{Today}
+use Rattle.calendar.specs.declared.Day.{Day}
 use Rattle.book.specs.Book.{Contents}
 use Rattle.nesting.specs.Division.{Record, Batch, payments_onto, batch_lines}
 use Rattle.nesting.specs.Records.{line_of, cut}
 use Rattle.nesting.proofs.Cuts.{cut_part}
 use Rattle.kinds.specs.Kinds.{kinds, crowded}
-use Rattle.repeats.specs.declared.Repeat.{Repeat}
-use Rattle.repeats.specs.declared.Repeat.TheVariants.{At, Nowhere}
 use Rattle.repeats.specs.declared.Sort.TheVariants.{Payments}
 use Rattle.repeats.specs.declared.climb.Climbing.{Climbing}
 use Rattle.repeats.specs.Repeats.{numbers, first_repeat}
@@ -28,15 +27,17 @@ use Rattle.repeats.specs.Climb.{climbed_by}
 use Rattle.repeats.proofs.Looks.{topped_none}
 use Rattle.repeats.proofs.Climbs.{climb_other, climb_clean}
 use Rattle.batch.specs.declared.Row.{Row}
-use Rattle.batch.specs.declared.Seeking.{Seeking}
 use Rattle.batch.specs.declared.pass.Told.{Told}
 use Rattle.batch.specs.declared.pass.Walked.{Walked}
 use Rattle.batch.specs.Batch.{account_count, account_kinds, BatchOf, Judgeable, IsRow, row_of}
-use Rattle.batch.specs.Walk.{is_at, opening, run, no_climb, to_trailer, walked_over, walk_of, is_somewhere, first_in, crowded_in, is_told, learnt, sought, row_at}
+use Rattle.batch.specs.Walk.{is_at, opening, run, no_climb, to_trailer, walked_over, walk_of, first_in, crowded_in, is_told, learnt, told_of, row_at}
 use Rattle.batch.proofs.Repeated.{header_none, first_repeat_enough}
 use Rattle.batch.proofs.Adequate.{adequate}
 use Rattle.batch.proofs.Accounts.{batch_kinds, few_accounts}
 use Rattle.batch.proofs.Trailers.{to_trailer_holds, records_are}
+
+none≢some : {A : Type 0} {x : A} → ◌≡◌ {A = Option A} None (Some x) → ⊥
+none≢some e = cc
 
 -- what is told of a batch is so
 pub record Right (n : ℕ) (b : Batch) (told : Told) : Type 0 where
@@ -65,7 +66,7 @@ module _ (rest : List ℕ) (n : ℕ) (b : Batch) (h : BatchOf n rest b) where
   others_are : to_trailer (cut (n + 1) (length rest / 850 - 1) (drop 850 rest)) ≡ others
   others_are = ap (λ (rs : List Record). to_trailer (tail rs)) (sym lines_are) ∙ to_trailer_holds b h.legal h.more
 
-  module _ (book : Contents) (today : Today) (repeats : Bool) (told : Told) (w : Walked) (e : w ≡ walk_of book today repeats told n rest) where
+  module _ (book : Contents) (today : Option Day) (repeats : Bool) (told : Told) (w : Walked) (e : w ≡ walk_of book today repeats told n rest) where
     walk_is : w ≡ walked_over book told (n + 1) (record { state = opening book today repeats told.crowded n b.header; climbing = no_climb; records = 1 }) others
     unfolding walk_of
     walk_is = e ∙ rw (others_are, header_is)
@@ -88,7 +89,7 @@ module _ (rest : List ℕ) (n : ℕ) (b : Batch) (h : BatchOf n rest b) where
     accounts_are = (adequate book today repeats told.crowded (is_at told.repeat) n b h.legal w.state state_is).3
 
     -- where the Payment IDs climb, none repeats
-    climb_told : w.climbing.falls ≡ false → Nowhere ≡ first_repeat Payments n [] (batch_lines b)
+    climb_told : w.climbing.falls ≡ false → None ≡ first_repeat Payments n [] (batch_lines b)
     unfolding climbed_by numbers
     climb_told f =
         let o = climb_other b.header no_climb refl (header_none b h.legal) in
@@ -112,7 +113,7 @@ module _ (rest : List ℕ) (n : ℕ) (b : Batch) (h : BatchOf n rest b) where
     unfolding learnt choose ◌and◌
     learnt_right = record { repeat = fell w.climbing.falls refl; kinds = counted (ltb 1000 w.state.accounts) refl }
       where
-        fell : (y : Bool) → w.climbing.falls ≡ y → choose y (first_in n (part_of rest w.records)) Nowhere ≡ first_repeat Payments n [] (batch_lines b)
+        fell : (y : Bool) → w.climbing.falls ≡ y → choose y (first_in n (part_of rest w.records)) None ≡ first_repeat Payments n [] (batch_lines b)
         fell true f = ap (first_repeat Payments n []) part_is
         fell false f = climb_told f
 
@@ -132,118 +133,67 @@ module _ (rest : List ℕ) (n : ℕ) (b : Batch) (h : BatchOf n rest b) where
         let s = a.2 in
         q ∙ λ i. record { first_record = n; records = c i; payments = p i; total = s i; finding = f i }
 
--- what is left to do after a walk, as the code finds it
-pub at_is : (r : Repeat) (k : ℕ) → r ≡ At k → true ≡ is_somewhere r
-unfolding is_somewhere
-at_is r k e = rw e
-
-pub nowhere_is : (r : Repeat) → r ≡ Nowhere → false ≡ is_somewhere r
-unfolding is_somewhere
-nowhere_is r e = rw e
-
+-- what there is to tell of, as the code finds it
 module _ (ascii : Bool) (n records : ℕ) (sent : List ℕ) where
   -- in the bytes of the batch, as the code takes them
   abbrev taken : List ℕ
-  taken = shown ascii (take (records * 850 - 0) (drop 0 sent))
+  taken = shown ascii (take (records * 850) sent)
 
   taken_is : taken ≡ part_of (shown ascii sent) records
-  taken_is =
-      let m : records * 850 - 0 ≡ records * 850 = omega arith in
-      rw m (shown_take ascii (records * 850) sent)
+  taken_is = shown_take ascii (records * 850) sent
 
-  pub repeat_in : (r : Repeat) → r ≡ first_in n taken → r ≡ first_in n (part_of (shown ascii sent) records)
+  pub repeat_in : (r : Option ℕ) → r ≡ first_in n taken → r ≡ first_in n (part_of (shown ascii sent) records)
   repeat_in r e = e ∙ ap (λ (xs : List ℕ). first_in n xs) taken_is
 
   pub crowd_in : (x : Bool) → x ≡ crowded_in n taken → x ≡ crowded_in n (part_of (shown ascii sent) records)
   crowd_in x e = e ∙ ap (λ (xs : List ℕ). crowded_in n xs) taken_is
 
-module _ (told : Told) (n records : ℕ) (rest : List ℕ) (falls : Bool) (accounts : ℕ) (t : Bool) (e : t ≡ is_told told) where
-  pub seek_told : t ≡ true → record { told = told; again = false } ≡ sought told (learnt falls accounts n (part_of rest records))
-  unfolding sought choose
-  seek_told o = rw (← e, o)
-
-  pub seek_learnt : t ≡ false → (r : Repeat) (x : Bool) (s : Seeking) → r ≡ choose falls (first_in n (part_of rest records)) Nowhere
-      → x ≡ (ltb 1000 accounts and crowded_in n (part_of rest records))
-      → s ≡ record { told = record { repeat = r; crowded = x }; again = is_told (record { repeat = r; crowded = x }) } → s ≡ sought told (learnt falls accounts n (part_of rest records))
-  unfolding sought learnt choose
-  seek_learnt o r x s p q z = z ∙ rw (← e, o, p, q)
-
--- what a walk is told: nothing, or all that is so
-pub data Known (n : ℕ) (rest : List ℕ) (told : Told) : Type 0 where
-  nothing : is_told told ≡ false → told ≡ record { repeat = Nowhere; crowded = false } → Known n rest told
-  something : is_told told ≡ true → ((b : Batch) → BatchOf n rest b → Right n b told) → Known n rest told
-
-none_told : (t : Told) → is_told t ≡ false → t ≡ record { repeat = Nowhere; crowded = false }
-unfolding is_told is_somewhere ◌or◌
+none_told : (t : Told) → is_told t ≡ false → t ≡ record { repeat = None; crowded = false }
+unfolding is_told ◌or◌
 none_told t e = go t.repeat t.crowded refl refl
   where
-    go : (r : Repeat) (c : Bool) → t.repeat ≡ r → t.crowded ≡ c → t ≡ record { repeat = Nowhere; crowded = false }
+    go : (r : Option ℕ) (c : Bool) → t.repeat ≡ r → t.crowded ≡ c → t ≡ record { repeat = None; crowded = false }
     go r true f g = absurd (true≢false (rw g at e))
-    go (At k) false f g = absurd (true≢false (rw (f, g) at e))
-    go Nowhere false f g = λ i. record { repeat = f i; crowded = g i }
+    go (Some k) false f g = absurd (true≢false (rw (f, g) at e))
+    go None false f g = λ i. record { repeat = f i; crowded = g i }
 
--- before each walk it is told so; after the last the row is the batch's
-pub record Judging (book : Contents) (today : Today) (repeats : Bool) (n : ℕ) (rest : List ℕ) (row : Row) (told : Told) (again : Bool) : Type 0 where
-  pub known : again ≡ true → Known n rest told
-  pub done : again ≡ false → IsRow book today repeats n rest row
+told_none : (t : Told) → None ≡ told_of t → t ≡ record { repeat = None; crowded = false }
+unfolding told_of choose
+told_none t e = go (is_told t) refl
+  where
+    go : (y : Bool) → is_told t ≡ y → t ≡ record { repeat = None; crowded = false }
+    go true o = absurd (none≢some (rw o at e))
+    go false o = none_told t o
 
--- the walks that may still come
-abbrev pub walks_left : Told → Bool → ℕ
-walks_left told again = choose again (choose (is_told told) 1 2) 0
+told_some : (t u : Told) → Some u ≡ told_of t → u ≡ t
+unfolding told_of choose
+told_some t u e = go (is_told t) refl
+  where
+    go : (y : Bool) → is_told t ≡ y → u ≡ t
+    go true o = cc (rw o at e)
+    go false o = absurd (none≢some (sym (rw o at e)))
 
-module _ (book : Contents) (today : Today) (repeats : Bool) {n : ℕ} {rest : List ℕ} where
-  pub judging_begun : (row : Row) → Judging book today repeats n rest row (record { repeat = Nowhere; crowded = false }) true
-  unfolding is_told is_somewhere ◌or◌
-  judging_begun row = record { known = λ e. nothing refl refl; done = λ e. absurd (true≢false e) }
+module _ (book : Contents) (today : Option Day) (repeats : Bool) {n : ℕ} {rest : List ℕ} (j : Judgeable n rest) (told : Told) {w : Walked} (e : w ≡ walk_of book today repeats told n rest) where
+  -- a walk ends within the bytes
+  pub end_within : w.records * 850 ≤ length rest
+  end_within = let h = j.batch.1 in omega (arith, size_is rest n j.batch.0 h book today repeats told w e, records_are h)
 
-  module _ (told : Told) {w : Walked} (j : Judgeable n rest) (e : w ≡ walk_of book today repeats told n rest) where
-    -- a walk ends within the bytes
-    pub end_within : w.records * 850 ≤ length rest
-    end_within = let h = j.batch.1 in omega (arith, size_is rest n j.batch.0 h book today repeats told w e, records_are h)
+  pub rest_few : length rest ≤ 65535 * 850
+  rest_few = omega (arith, j.few, j.numbered, j.whole)
 
-    pub rest_few : length rest ≤ 65535 * 850
-    rest_few = omega (arith, j.few, j.numbered, j.whole)
+  pub first_few : n ≤ 65536
+  first_few = omega (arith, j.few)
 
-    pub first_few : n ≤ 65536
-    first_few = omega (arith, j.few)
+  abbrev found : Told
+  found = learnt w.climbing.falls w.state.accounts n (part_of rest w.records)
 
-    module _ {row : Row} {again : Bool} (g : Judging book today repeats n rest row told again) (t : again ≡ true) (next : Seeking)
-        (s : next ≡ sought told (learnt w.climbing.falls w.state.accounts n (part_of rest w.records))) where
-      abbrev found : Told
-      found = learnt w.climbing.falls w.state.accounts n (part_of rest w.records)
+  right : (b : Batch) → BatchOf n rest b → Right n b found
+  right b h = learnt_right rest n b h book today repeats told w e
 
-      -- what is left to do, by what the walk was told
-      after_told : is_told told ≡ true → next ≡ record { told = told; again = false }
-      unfolding sought choose
-      after_told o = s ∙ rw o
+  -- where there is nothing to tell of, a walk that was told nothing has the row; else one that is told
+  pub row_once : told ≡ record { repeat = None; crowded = false } → None ≡ told_of found → (row : Row) → row ≡ row_at w.state n w.records → IsRow book today repeats n rest row
+  row_once z o row q b h = told_row rest n b h book today repeats told w e (rw (z ∙ sym (told_none found o)) (right b h)) row q
 
-      after_none : is_told told ≡ false → next ≡ record { told = found; again = is_told found }
-      unfolding sought choose
-      after_none o = s ∙ rw o
-
-      pub judging_less : walks_left next.told next.again < walks_left told again
-      unfolding choose
-      judging_less = go (g.known t)
-        where
-          few : (y : Bool) → choose y (choose y 1 2) 0 < 2
-          few true = omega arith
-          few false = omega arith
-
-          go : Known n rest told → walks_left next.told next.again < walks_left told again
-          go (something o k) = rw (t, o, after_told o) (omega arith)
-          go (nothing o z) = rw (t, o, after_none o) (few (is_told found))
-
-      pub judging_next : (after : Row) → after ≡ row_at w.state n w.records → Judging book today repeats n rest after next.told next.again
-      judging_next after q = go (g.known t)
-        where
-          row_is : ((b : Batch) → BatchOf n rest b → Right n b told) → IsRow book today repeats n rest after
-          row_is k b h = told_row rest n b h book today repeats told w e (k b h) after q
-
-          right : (b : Batch) → BatchOf n rest b → Right n b found
-          right b h = learnt_right rest n b h book today repeats told w e
-
-          go : Known n rest told → Judging book today repeats n rest after next.told next.again
-          go (something o k) = rw (after_told o) (record { known = λ i. absurd (true≢false (sym i)); done = λ i. row_is k })
-          go (nothing o z) =
-              rw (after_none o)
-              (record { known = λ i. something i right; done = λ i. row_is (λ b h. rw (z ∙ sym (none_told found i)) (right b h)) })
+  pub row_twice : (more : Told) → Some more ≡ told_of found → (v : Walked) → v ≡ walk_of book today repeats more n rest → (row : Row) → row ≡ row_at v.state n v.records
+      → IsRow book today repeats n rest row
+  row_twice more o v z row q b h = told_row rest n b h book today repeats more v z (rw (told_some found more o) (right b h)) row q

@@ -1,6 +1,9 @@
 -- Each function of the walk does what its definition says: the parts of a result, put together.
 -- Assumes nothing.
-use mathlib.Core.Path.{◌≡◌, sym, ap, ◌∙◌}
+use Rattle.reasons.specs.Findings.{Checked, found, noted}
+use Rattle.std.specs.Prelude.{Option, Some, None, is_some, unwrap_or, Ok, Err}
+use Rattle.std.specs.Option.{option_eq}
+use mathlib.Core.Path.{◌≡◌, refl, sym, ap, ◌∙◌}
 use mathlib.Core.Bool.{Bool, true, false}
 use mathlib.Core.List.{List, ◌++◌}
 use Prim.Native.Nat.{ℕ, ◌+◌}
@@ -18,13 +21,10 @@ use Rattle.money.specs.declared.Amount.{Amount}
 use Rattle.money.specs.Money.{worth, split, cents}
 use Rattle.money.proofs.Amounts.{worth_split}
 use Rattle.calendar.specs.declared.Month.{Month}
-use Rattle.calendar.specs.declared.Today.{Today}
+use Rattle.calendar.specs.declared.Day.{Day}
 use Rattle.calendar.specs.Clock.{month_in}
-use Rattle.book.specs.declared.search.Listing.{Listing}
 use Rattle.book.specs.Book.{Contents, listing}
 use Rattle.nesting.specs.Division.{Record}
-use Rattle.repeats.specs.declared.Repeat.{Repeat}
-use Rattle.repeats.specs.declared.Repeat.TheVariants.{At, Nowhere}
 use Rattle.reasons.specs.declared.Finding.{Finding}
 use Rattle.reasons.specs.Findings.{sound, after}
 use Rattle.reasons.proofs.Firsts.{after_append}
@@ -35,16 +35,14 @@ use Rattle.batch.specs.declared.payment.Open.{Open}
 use Rattle.batch.specs.declared.walk.Header.{Header}
 use Rattle.batch.specs.declared.walk.State.{State}
 use Rattle.batch.specs.Batch.{first_serial, no_codes, location, betc, with_codes, location_only, betc_only, detail_codes, account_context}
-use Rattle.batch.specs.Walk.{is_at, opened, with_account, with_procurement, ended, context_of, knowing, head, opening, payer_in, paying_context, next_procurement, last, detailed, partied, accounted, procured, trailed, step_of}
+use Rattle.batch.specs.Walk.{account_reason, procurement_reason, lack_reason, is_at, opened, with_account, with_procurement, ended, context_of, knowing, head, opening, payer_in, paying_context, next_procurement, last, detailed, partied, accounted, procured, trailed, step_of}
 
 -- which record repeats
-pub repeat_at : (r : Repeat) (k n : ℕ) (x : Bool) → r ≡ At k → x ≡ eqb k n → x ≡ is_at r n
+-- the record that repeats is asked for by equality
+pub at_is : (r : Option ℕ) (n : ℕ) → option_eq eqb r (Some n) ≡ is_at r n
 unfolding is_at
-repeat_at r k n x e h = rw e h
-
-pub repeat_nowhere : (r : Repeat) (n : ℕ) → r ≡ Nowhere → false ≡ is_at r n
-unfolding is_at
-repeat_nowhere r n e = rw e
+at_is None n = refl
+at_is (Some k) n = refl
 
 -- what is asked of a letter is what is asked of the letter that is known
 pub letter_is : (l m : Letter) (x : Bool) → l ≡ m → x ≡ among m check → x ≡ among l check
@@ -63,9 +61,20 @@ not_first a b e = rw e
 pub sum_told : (a b : Amount) (x : ℕ) (r t : Bool) → a ≡ split x → r ≡ eqb (worth a) (worth b) → r ≡ t → eqb x (worth b) ≡ t
 sum_told a b x r t e h k = rw (← worth_split x, ← e) (sym h ∙ k)
 
+-- what is wrong with the sums of a payment, after what is known
+pub ending : (f : Checked Finding) (o : Open)
+    → after f (ended o) ≡ noted f (noted (found (account_reason o) o.number 87) (noted (found (procurement_reason o) o.number 96) (found (lack_reason o) o.number 76)))
+unfolding ended after noted
+ending (Err g) o = refl
+ending (Ok tt) o = go (found (account_reason o) o.number 87) (found (procurement_reason o) o.number 96) (found (lack_reason o) o.number 76)
+  where
+    go : (x y z : Checked Finding) → noted (noted x y) z ≡ noted x (noted y z)
+    go (Ok tt) y z = refl
+    go (Err g) y z = refl
+
 -- some findings, and then others
-pub then : (f g z : Finding) (xs ys : List Finding) → g ≡ after f xs → z ≡ after g ys → z ≡ after f (xs ++ ys)
-then f g z xs ys e h = h ∙ ap (λ (k : Finding). after k ys) e ∙ sym (after_append f xs ys)
+pub then : (f g z : Checked Finding) (xs ys : List (Checked Finding)) → g ≡ after f xs → z ≡ after g ys → z ≡ after f (xs ++ ys)
+then f g z xs ys e h = h ∙ ap (λ (k : Checked Finding). after k ys) e ∙ sym (after_append f xs ys)
 
 -- a payment with a first DP, and with a later one
 module _ (o : Open) (b : Bool) (n : ℕ) (a : Amount) where
@@ -96,7 +105,7 @@ emptied s k c repeats reporter e h = h ∙ rw e
 
 module _ (n : ℕ) (r : Record) where
   -- the rules of a first DP, and of a later one
-  module _ (c : Context) (f z : Finding) (k : ℕ) where
+  module _ (c : Context) (f z : Checked Finding) (k : ℕ) where
     pub own_lone : k ≡ 0 → z ≡ after f (findings c n r (rules_for N lone_procurement)) → z ≡ after f (findings c n r (rules_for N (choose (eqb k 0) lone_procurement procurement)))
     unfolding choose
     own_lone e h = rw (eq-eqb k 0 e) h
@@ -106,38 +115,38 @@ module _ (n : ℕ) (r : Record) where
     own_other e h = rw (ne_eqb k 0 e) h
 
   -- the rules see the context that was put together
-  pub in_context : (c d : Context) (f z : Finding) (rs : List Rule) → c ≡ d → z ≡ after f (findings c n r rs) → z ≡ after f (findings d n r rs)
+  pub in_context : (c d : Context) (f z : Checked Finding) (rs : List Rule) → c ≡ d → z ≡ after f (findings c n r rs) → z ≡ after f (findings d n r rs)
   in_context c d f z rs e h = rw (← e) h
 
   -- the state after a DX, a DP and a BT
   module _ (s z : State) where
-    pub party_taken : (f : Finding) → f ≡ after s.finding (findings s.payment.context n r (rules_for s.header.letter party))
+    pub party_taken : (f : Checked Finding) → f ≡ after s.finding (findings s.payment.context n r (rules_for s.header.letter party))
         → z ≡ knowing s f s.payment s.accounts → z ≡ partied s n r
     unfolding partied
     party_taken f e h = h ∙ rw e
 
-    pub procurement_taken : (f : Finding) (bare : Bool) (a : Amount) (o : Open) → f ≡ after s.finding (next_procurement s.payment n r)
+    pub procurement_taken : (f : Checked Finding) (bare : Bool) (a : Amount) (o : Open) → f ≡ after s.finding (next_procurement s.payment n r)
         → bare ≡ blank (held r procurement_amount) → a ≡ split (cents (held r procurement_amount)) → o ≡ with_procurement s.payment bare (worth a)
         → z ≡ knowing s f o s.accounts → z ≡ procured s n r
     unfolding procured
     procurement_taken f bare a o e c d k h = h ∙ rw (k, e, c, d, worth_split)
 
-    pub trailer_taken : (g f : Finding) → g ≡ after s.finding (ended s.payment) → f ≡ after g (last s n r)
+    pub trailer_taken : (g f : Checked Finding) → g ≡ after s.finding (ended s.payment) → f ≡ after g (last s n r)
         → z ≡ knowing s f s.payment s.accounts → z ≡ trailed s n r
     unfolding trailed
     trailer_taken g f e d h = h ∙ rw (d, e)
 
 module _ (book : Contents) (r : Record) where
   -- which of a detail's codes are listed
-  pub codes_looked_up : (payer : Bool) (t s c m : Listing) → t ≡ listing 25 book.types (held r payment_type_code) → s ≡ listing 2 book.states (held r state_code)
+  pub codes_looked_up : (payer : Bool) (t s c m : Option Bool) → t ≡ listing 25 book.types (held r payment_type_code) → s ≡ listing 2 book.states (held r state_code)
       → c ≡ listing 2 book.countries (held r country_code) → m ≡ listing 3 book.currencies (held r original_currency_code)
-      → record { locations = payer; betcs = false; types = t.listed; states = s.listed; countries = c.listed; currencies = m.listed } ≡ detail_codes book payer r
+      → record { locations = payer; betcs = false; types = is_some t; states = is_some s; countries = is_some c; currencies = is_some m } ≡ detail_codes book payer r
   unfolding detail_codes
   codes_looked_up payer t s c m d e f g = rw (d, e, f, g)
 
   -- what the rules of a payment's records know
-  pub paying : (s : State) (repeats : Bool) (l : Listing) (k : Codes) (c : Context) → l ≡ payer_in book s.header r → k ≡ detail_codes book l.listed r
-      → c ≡ context_of s repeats l.flagged k → c ≡ paying_context book s repeats r
+  pub paying : (s : State) (repeats : Bool) (l : Option Bool) (k : Codes) (c : Context) → l ≡ payer_in book s.header r → k ≡ detail_codes book (is_some l) r
+      → c ≡ context_of s repeats (unwrap_or l false) k → c ≡ paying_context book s repeats r
   unfolding paying_context
   paying s repeats l k c p q h = h ∙ rw (q, p)
 
@@ -146,19 +155,19 @@ module _ (book : Contents) (n : ℕ) (r : Record) where
   abbrev zero_amount : Amount
   zero_amount = record { high = 0; low = 0 }
 
-  abbrev headed : Today → Codes → Bool → Header → Context
+  abbrev headed : Option Day → Codes → Bool → Header → Context
   headed today k repeats h =
       record { repeats = repeats; reporter = false; codes = k; symbol = h.symbol; serial = h.serial; month = h.month; payments = 0; total = zero_amount; today = today }
 
-  pub batch_opened : (today : Today) (repeats crowded : Bool) (h : Header) (f : Finding) (o : Open) → h ≡ head book today crowded n r
-      → (k : Codes) → k ≡ location_only h.payer.listed
+  pub batch_opened : (today : Option Day) (repeats crowded : Bool) (h : Header) (f : Checked Finding) (o : Open) → h ≡ head book today crowded n r
+      → (k : Codes) → k ≡ location_only (is_some h.payer)
       → f ≡ after sound (findings (headed today k repeats h) n r (rules_for h.letter header)) → o ≡ opened n (headed today k repeats h) zero_amount
       → record { finding = f; header = h; payment = o; payments = 0; total = zero_amount; accounts = 0 } ≡ opening book today repeats crowded n r
   unfolding opening head split
   batch_opened today repeats crowded h f o e k c d q = rw (d, q, c, e)
 
   -- what the header says
-  pub head_read : (c : Code) (l : Letter) (payer : Listing) (symbol : List ℕ) (serial : ℕ) (month : Month) (a : Amount) (crowded : Bool) (today : Today) → c ≡ code_of r → l ≡ letter_in c → payer ≡ location book (held r agency_location_code)
+  pub head_read : (c : Code) (l : Letter) (payer : Option Bool) (symbol : List ℕ) (serial : ℕ) (month : Option Month) (a : Amount) (crowded : Bool) (today : Option Day) → c ≡ code_of r → l ≡ letter_in c → payer ≡ location book (held r agency_location_code)
       → symbol ≡ held r check_symbol_number → serial ≡ first_serial r → month ≡ month_in (held r check_accounting_month_and_year) → a ≡ split (cents (held r summary_total_amount))
       → record { number = n; letter = l; payer = payer; symbol = symbol; serial = serial; month = month; amount = a; crowded = crowded; today = today } ≡ head book today crowded n r
   unfolding head
@@ -166,7 +175,7 @@ module _ (book : Contents) (n : ℕ) (r : Record) where
 
   -- the state after a detail and a DT
   module _ (s : State) where
-    pub detail_taken : (repeats : Bool) (c : Context) (g f : Finding) (a t : Amount) (o : Open) → c ≡ paying_context book s repeats r
+    pub detail_taken : (repeats : Bool) (c : Context) (g f : Checked Finding) (a t : Amount) (o : Open) → c ≡ paying_context book s repeats r
         → g ≡ after s.finding (ended s.payment) → f ≡ after g (findings c n r (rules_for s.header.letter detail))
         → a ≡ split (cents (held r amount)) → o ≡ opened n c a → t ≡ split (worth s.total + worth a)
         → record { finding = f; header = s.header; payment = o; payments = s.payments + 1; total = t; accounts = s.accounts } ≡ detailed book s n r repeats
@@ -174,8 +183,8 @@ module _ (book : Contents) (n : ℕ) (r : Record) where
     detail_taken repeats c g f a t o q u v w x y = rw (y, x, w, v, u, q, worth_split)
 
   module _ (s z : State) where
-    pub account_taken : (f : Finding) (l : Listing) (k : Codes) (c : Context) (a : Amount) (o : Open) → l ≡ betc book r → k ≡ betc_only l.listed → c ≡ with_codes s.payment.context k
-        → f ≡ after s.finding (findings c n r (rules_for N account)) → a ≡ split (cents (held r account_amount)) → o ≡ with_account s.payment l.flagged (worth a)
+    pub account_taken : (f : Checked Finding) (l : Option Bool) (k : Codes) (c : Context) (a : Amount) (o : Open) → l ≡ betc book r → k ≡ betc_only (is_some l) → c ≡ with_codes s.payment.context k
+        → f ≡ after s.finding (findings c n r (rules_for N account)) → a ≡ split (cents (held r account_amount)) → o ≡ with_account s.payment (unwrap_or l false) (worth a)
         → z ≡ knowing s f o (s.accounts + 1) → z ≡ accounted book s n r
     unfolding accounted account_context
     account_taken f l k c a o p q u e d w h = h ∙ rw (w, e, u, q, p, d, worth_split)

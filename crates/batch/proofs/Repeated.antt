@@ -1,11 +1,13 @@
 -- The first detail that repeats is enough: a reason is drawn there, and no later finding is reported.
 -- Assumes nothing.
+use Rattle.reasons.specs.declared.Reason.TheVariants.{Blank, Repeated}
+use Rattle.reasons.specs.Findings.{Checked, found}
+use Rattle.std.specs.Prelude.{Option, Some, Err, Ok}
 use mathlib.Core.Path.{◌≡◌, refl, sym, ◌∙◌, ap}
-use mathlib.Core.Bool.{Bool, true, false, true≢false}
+use mathlib.Core.Bool.{Bool, true, false}
 use mathlib.Core.List.{List, [], ◌∷◌, ◌++◌, map, append-nil, append_assoc}
 use Prim.Native.Nat.{ℕ, ◌+◌, ◌<◌}
 use native.Mathlib.Omega.{arith}
-use lib.Dec.{eqb}
 use lib.ListN.{length}
 use borrow.Author.Tests.{eq-eqb, ne_eqb}
 use borrow.Table.Elements.{map_app}
@@ -18,12 +20,10 @@ use Rattle.record.specs.Fields.{payment_id}
 use Rattle.record.specs.Value.{held}
 use Rattle.record.specs.Tests.{blank}
 use Rattle.record.specs.Codes.{letter_byte, code_bytes, is_detail}
-use Rattle.calendar.specs.declared.Today.{Today}
+use Rattle.calendar.specs.declared.Day.{Day}
 use Rattle.book.specs.Book.{Contents}
 use Rattle.nesting.specs.Division.{Record, All, Own, Coded, batch_code, Payment, Batch, LegalPayment, LegalBatch, payment_onto, payments_onto, batch_lines}
 use Rattle.nesting.proofs.Coding.{of_bytes, lettered}
-use Rattle.repeats.specs.declared.Repeat.{Repeat}
-use Rattle.repeats.specs.declared.Repeat.TheVariants.{At}
 use Rattle.repeats.specs.declared.Sort.TheVariants.{Payments}
 use Rattle.tables.specs.Tables.{member}
 use Rattle.kinds.specs.Kinds.{crowded}
@@ -56,7 +56,7 @@ header_none b g =
     detail_is (code.Batch l.0) false b.header refl (g.header ∙ ap batch_code l.1)
 
 -- the first repeat is not before the first record
-at_or_later : (t : Bool) (n m : ℕ) (later : Repeat) → m < n → is_at later m ≡ false → is_at (choose t (At n) later) m ≡ false
+at_or_later : (t : Bool) (n m : ℕ) (later : Option ℕ) → m < n → is_at later m ≡ false → is_at (choose t (Some n) later) m ≡ false
 unfolding is_at choose
 at_or_later true n m later h e = ne_eqb n m (λ q. omega arith)
 at_or_later false n m later h e = e
@@ -67,12 +67,12 @@ not_before n m seen [] h = refl
 not_before n m seen (r ∷ rs) h = at_or_later (repeats Payments seen r) n m _ h (not_before (n + 1) m (seen ++ r ∷ []) rs (omega arith))
 
 -- the answer is the first repeat from the record n on, after details with these numbers
-record Seeking (answer : Repeat) (n : ℕ) (ids : List (List ℕ)) (rs : List Record) : Type 0 where
+record Seeking (answer : Option ℕ) (n : ℕ) (ids : List (List ℕ)) (rs : List Record) : Type 0 where
   seen : List Record
   known : numbers Payments seen ≡ ids
   left : answer ≡ first_repeat Payments n seen rs
 
-module _ (answer : Repeat) where
+module _ (answer : Option ℕ) where
   -- the answer is not among the records before
   seeking_later : (n m : ℕ) (ids : List (List ℕ)) (rs : List Record) → m < n → Seeking answer n ids rs → is_at answer m ≡ false
   seeking_later n m ids rs h s = rw s.left (not_before n m s.seen rs h)
@@ -126,62 +126,55 @@ module _ (answer : Repeat) where
         (seeking_new n (map id_of earlier) p.detail _ s (legal_detail l p g) m))))
 
 -- findings from which the same first is kept, whatever came before
-abbrev Alike : List Finding → List Finding → Type 0
-Alike xs ys = (f : Finding) → after f xs ≡ after f ys
+abbrev Alike : List (Checked Finding) → List (Checked Finding) → Type 0
+Alike xs ys = (f : Checked Finding) → after f xs ≡ after f ys
 
 -- are so behind others and before others
-behind : (xs ys zs : List Finding) → Alike ys zs → Alike (xs ++ ys) (xs ++ zs)
+behind : (xs ys zs : List (Checked Finding)) → Alike ys zs → Alike (xs ++ ys) (xs ++ zs)
 behind xs ys zs h f = after_append f xs ys ∙ h (after f xs) ∙ sym (after_append f xs zs)
 
-before : (xs ys zs : List Finding) → Alike xs ys → Alike (xs ++ zs) (ys ++ zs)
-before xs ys zs h f = after_append f xs zs ∙ ap (λ (g : Finding). after g zs) (h f) ∙ sym (after_append f ys zs)
+before : (xs ys zs : List (Checked Finding)) → Alike xs ys → Alike (xs ++ zs) (ys ++ zs)
+before xs ys zs h f = after_append f xs zs ∙ ap (λ (g : Checked Finding). after g zs) (h f) ∙ sym (after_append f ys zs)
+
+-- the first of many is a finding
+unfoldable Drawn : List (Checked Finding) → Type 0
+Drawn [] = ⊥
+Drawn (x ∷ xs) = (g : Finding) × (x ≡ Err g)
 
 -- a number that repeats draws a reason
-repeat_drawn : (t : Bool) → eqb (choose t 1 6) 0 ≡ false
-unfolding choose
-repeat_drawn true = refl
-repeat_drawn false = refl
+repeat_drawn : (t : Bool) (n k : ℕ) → (g : Finding) × (found (choose t (Err Blank) (Err Repeated)) n k ≡ Err g)
+unfolding choose found
+repeat_drawn true n k = (_, refl)
+repeat_drawn false n k = (_, refl)
 
--- a reason is kept, or was there before
-noted_reason : (f x : Finding) → eqb x.reason 0 ≡ false → eqb (noted f x).reason 0 ≡ false
-unfolding noted choose
-noted_reason f x e = go (eqb f.reason 0) refl
-  where
-    go : (t : Bool) → eqb f.reason 0 ≡ t → eqb (choose (eqb f.reason 0) (choose (eqb x.reason 0) f x) f).reason 0 ≡ false
-    go true h = rw (h, e) e
-    go false h = rw h h
+-- from then on nothing is reported
+drawn_stays : (f : Checked Finding) (xs ys : List (Checked Finding)) → Drawn xs → after (after f xs) ys ≡ after f xs
+unfolding after noted Drawn
+drawn_stays f [] ys d = absurd d
+drawn_stays (Err f) (x ∷ xs) ys d = ap (λ (u : Checked Finding). after u ys) (stays f xs) ∙ stays f ys ∙ sym (stays f xs)
+drawn_stays (Ok tt) (x ∷ xs) ys d = rw d.1 (ap (λ (u : Checked Finding). after u ys) (stays d.0 xs) ∙ stays d.0 ys ∙ sym (stays d.0 xs))
 
--- the reason of the first of many; where there is one, one is kept
-unfoldable leading : List Finding → ℕ
-leading [] = 0
-leading (x ∷ xs) = x.reason
-
-after_reason : (f : Finding) (xs : List Finding) → eqb (leading xs) 0 ≡ false → eqb (after f xs).reason 0 ≡ false
-unfolding after leading
-after_reason f [] e = absurd (true≢false e)
-after_reason f (x ∷ xs) e = let h = noted_reason f x e in rw (stays (noted f x) xs h) h
-
-module _ (book : Contents) (today : Today) (h : Record) (earlier : List Payment) (d : Record) where
+module _ (book : Contents) (today : Option Day) (h : Record) (earlier : List Payment) (d : Record) where
   -- so a detail that repeats begins with a reason, whatever its letter
-  detail_drawn : (l : Letter) (n : ℕ) (r : Record) → eqb (leading (findings (detail_context book today h true earlier d) n r (rules_for l detail))) 0 ≡ false
-  unfolding leading detail_context context rows among findings reason detail letter_byte choose ◌and◌ ◌or◌ unrepeated composed
-  detail_drawn N n r = repeat_drawn (blank (held r payment_id))
-  detail_drawn C n r = repeat_drawn (blank (held r payment_id))
-  detail_drawn W n r = repeat_drawn (blank (held r payment_id))
-  detail_drawn I n r = repeat_drawn (blank (held r payment_id))
-  detail_drawn A n r = repeat_drawn (blank (held r payment_id))
+  detail_drawn : (l : Letter) (n : ℕ) (r : Record) → Drawn (findings (detail_context book today h true earlier d) n r (rules_for l detail))
+  unfolding Drawn detail_context context rows among findings reason detail letter_byte choose ◌and◌ ◌or◌ unrepeated composed
+  detail_drawn N n r = repeat_drawn (blank (held r payment_id)) n 23
+  detail_drawn C n r = repeat_drawn (blank (held r payment_id)) n 23
+  detail_drawn W n r = repeat_drawn (blank (held r payment_id)) n 23
+  detail_drawn I n r = repeat_drawn (blank (held r payment_id)) n 23
+  detail_drawn A n r = repeat_drawn (blank (held r payment_id)) n 23
 
   -- and nothing that follows it is reported
-  payment_closes : (l : Letter) (n : ℕ) (p : Payment) (f : Finding) (xs : List Finding)
+  payment_closes : (l : Letter) (n : ℕ) (p : Payment) (f : Checked Finding) (xs : List (Checked Finding))
       → after f (payment book l (detail_context book today h true earlier d) n p ++ xs)
       ≡ after f (findings (detail_context book today h true earlier d) n p.detail (rules_for l detail))
   unfolding payment
   payment_closes l n p f xs =
       let ds = findings (detail_context book today h true earlier d) n p.detail (rules_for l detail) in
-      ap (after f) (append_assoc ds _ xs) ∙ after_append f ds _ ∙ stays (after f ds) _ (after_reason f ds (detail_drawn l n p.detail))
+      ap (after f) (append_assoc ds _ xs) ∙ after_append f ds _ ∙ drawn_stays f ds _ (detail_drawn l n p.detail)
 
-module _ (book : Contents) (today : Today) where
-  module _ (answer : Repeat) (h : Record) (l : Letter) (rs : List Record) where
+module _ (book : Contents) (today : Option Day) where
+  module _ (answer : Option ℕ) (h : Record) (l : Letter) (rs : List Record) where
     -- payments of which the same first is kept, marked or not
     abbrev Same : ℕ → List Payment → List Payment → Type 0
     Same n earlier ps = Alike (marked_payments book today (is_at answer) h n earlier ps) (payments book today h n earlier ps)

@@ -1,5 +1,6 @@
 -- Room for one record more: nothing that the walk counts or adds leaves its word.
 -- Assumes nothing.
+use Rattle.std.specs.Prelude.{Option}
 use mathlib.Core.Path.{◌≡◌, refl}
 use mathlib.Core.Bool.{Bool, true, false}
 use mathlib.Core.List.{List}
@@ -18,7 +19,7 @@ use Rattle.record.proofs.Numbers.{numeral_below}
 use Rattle.money.specs.declared.Amount.{Amount}
 use Rattle.money.specs.Money.{worth, split, cents, Whole, Fit}
 use Rattle.money.proofs.Amounts.{worth_split, split_whole, cents_below}
-use Rattle.calendar.specs.declared.Today.{Today}
+use Rattle.calendar.specs.declared.Day.{Day}
 use Rattle.book.specs.Book.{Contents}
 use Rattle.rules.specs.declared.Codes.{Codes}
 use Rattle.rules.specs.declared.Context.{Context}
@@ -72,7 +73,7 @@ serial_below ascii rec e = go (digits (held (shown ascii rec) check_first_serial
     go false d = rw d (omega arith)
 
 -- what the header's rules know
-pub kept_header : (book : Contents) (today : Today) (n : ℕ) (ascii : Bool) (rec : List ℕ) (h : Header) (repeats crowded : Bool) (codes : Codes) (k : ℕ) → k < 65536 → length rec ≡ 850 → h ≡ head book today crowded n (shown ascii rec)
+pub kept_header : (book : Contents) (today : Option Day) (n : ℕ) (ascii : Bool) (rec : List ℕ) (h : Header) (repeats crowded : Bool) (codes : Codes) (k : ℕ) → k < 65536 → length rec ≡ 850 → h ≡ head book today crowded n (shown ascii rec)
     → Kept (record { repeats = repeats; reporter = false; codes = codes; symbol = h.symbol; serial = h.serial; month = h.month; payments = k; total = record { high = 0; low = 0 }; today = today })
 unfolding head Whole
 kept_header book today n ascii rec h repeats crowded codes k few l e =

@@ -1,6 +1,7 @@
 -- The loop over a batch's records: what is left of them decides, and there is room for each.
 -- Assumes nothing.
-use mathlib.Core.Path.{◌≡◌, refl, sym, ap, ◌∙◌, subst}
+use Rattle.std.specs.Prelude.{Option}
+use mathlib.Core.Path.{◌≡◌, refl, sym, ap, ◌∙◌}
 use mathlib.Core.Bool.{Bool, true, false}
 use mathlib.Core.List.{List, [], ◌∷◌}
 use Prim.Native.Nat.{ℕ, suc, ◌+◌, ◌-◌, ◌*◌, ◌/◌, ◌<◌, ◌≤◌}
@@ -19,7 +20,7 @@ use Rattle.record.proofs.Held.{held_length}
 use Rattle.money.specs.Money as money
 use Rattle.money.specs.Money.{worth, split, cents}
 use Rattle.money.proofs.Amounts.{worth_split, split_whole, cents_below}
-use Rattle.calendar.specs.declared.Today.{Today}
+use Rattle.calendar.specs.declared.Day.{Day}
 use Rattle.book.specs.Book.{Contents}
 use Rattle.nesting.specs.Division.{Record}
 use Rattle.nesting.specs.Records.{cut}
@@ -102,7 +103,7 @@ module _ (ascii : Bool) (rec : List ℕ) (l : length rec ≡ 850) where
   below f h w = cents_below (held (shown ascii rec) f) (wide f h w)
 
   -- after a header there is room
-  pub room_opening : (book : Contents) (today : Today) (repeats crowded : Bool) (n m : ℕ) → Room (n + 1) (opening book today repeats crowded m (shown ascii rec))
+  pub room_opening : (book : Contents) (today : Option Day) (repeats crowded : Bool) (n m : ℕ) → Room (n + 1) (opening book today repeats crowded m (shown ascii rec))
   unfolding opening opened head
   room_opening book today repeats crowded n m =
       record {
@@ -205,7 +206,7 @@ pub first_sent : (ascii : Bool) (sent : List ℕ) (n : ℕ) → Judgeable n (sho
 first_sent ascii sent n j = omega (arith, first_record j, shown_length ascii sent)
 
 -- so many records have been walked, up to `at`, and no BT behind the header: the walk over the others is the walk over all
-pub record Walking (book : Contents) (today : Today) (ascii : Bool) (sent : List ℕ) (first : ℕ) (repeats : Bool) (told : Told) (w : Walked) (at : ℕ) : Type 0 where
+pub record Walking (book : Contents) (today : Option Day) (ascii : Bool) (sent : List ℕ) (first : ℕ) (repeats : Bool) (told : Told) (w : Walked) (at : ℕ) : Type 0 where
   pub judgeable : Judgeable first (shown ascii sent)
   pub place : at ≡ w.records * 850
   pub some : 1 ≤ w.records
@@ -213,8 +214,8 @@ pub record Walking (book : Contents) (today : Today) (ascii : Bool) (sent : List
   pub room : Roomy (first + w.records) w.state
   pub left : walk_of book today repeats told first (shown ascii sent) ≡ walked_over book told (first + w.records) w (to_trailer (cut (first + w.records) (length (shown ascii sent) / 850 - w.records) (drop at (shown ascii sent))))
 
-module _ {book : Contents} {today : Today} {ascii : Bool} {sent : List ℕ} {first : ℕ} {repeats : Bool} {told : Told} where
-  begun : {s : State} → Judgeable first (shown ascii sent) → s ≡ opening book today repeats told.crowded first (shown ascii (take 850 sent))
+module _ {book : Contents} {today : (Option Day)} {ascii : Bool} {sent : List ℕ} {first : ℕ} {repeats : Bool} {told : Told} where
+  pub begun : {s : State} → Judgeable first (shown ascii sent) → s ≡ opening book today repeats told.crowded first (shown ascii (take 850 sent))
       → Walking book today ascii sent first repeats told (record { state = s; climbing = no_climb; records = 1 }) 850
   unfolding walk_of Roomy
   begun j e =
@@ -293,79 +294,3 @@ module _ {book : Contents} {today : Today} {ascii : Bool} {sent : List ℕ} {fir
     finished h =
         let e : length (shown ascii sent) / 850 - w.records ≡ 0 = omega (arith, i.place) in
         sym (i.left ∙ rw e (over_none book told _ w))
-
--- where the walk stops after a record, by its code
-pub stops : (k : Code) (end stop : ℕ) (x : Bool) → x ≡ is_trailer k → x ≡ true → end ≡ choose (is_trailer k) end stop
-unfolding choose
-stops k end stop x e f = rw (← e, f)
-
-pub goes_on : (k : Code) (end stop : ℕ) (x : Bool) → x ≡ is_trailer k → x ≡ false → stop ≡ choose (is_trailer k) end stop
-unfolding choose
-goes_on k end stop x e f = rw (← e, f)
-
--- the walk goes on while a record is left, or has stopped behind the BT
-pub record Passing (book : Contents) (today : Today) (ascii : Bool) (sent : List ℕ) (first : ℕ) (repeats : Bool) (told : Told) (w : Walked) (at stop : ℕ) : Type 0 where
-  pub going : at < stop → Walking book today ascii sent first repeats told w at
-  pub whole : at < stop → stop ≡ length (shown ascii sent)
-  pub done : stop ≤ at → w ≡ walk_of book today repeats told first (shown ascii sent)
-
-module _ {book : Contents} {today : Today} {ascii : Bool} {sent : List ℕ} {first : ℕ} {repeats : Bool} {told : Told} where
-  passing_begun : {s : State} → Judgeable first (shown ascii sent) → s ≡ opening book today repeats told.crowded first (shown ascii (take 850 sent))
-      → Passing book today ascii sent first repeats told (record { state = s; climbing = no_climb; records = 1 }) 850 (length sent)
-  passing_begun j e =
-      let n = shown_length ascii sent in
-      let w : Walking book today ascii sent first repeats told _ 850 = begun j e in
-      record { going = λ h. w; whole = λ h. sym n; done = λ h. finished w (omega (arith, n)) }
-
-  module _ {w : Walked} {at stop : ℕ} (p : Passing book today ascii sent first repeats told w at stop) (h : at < stop) where
-    -- the record at the place
-    pub walking : Walking book today ascii sent first repeats told w at
-    walking = p.going h
-
-    pub left : at < length sent
-    left = omega (arith, p.whole h, shown_length ascii sent)
-
-    module _ (k : Code) {stop' : ℕ} (z : stop' ≡ choose (is_trailer k) (at + 850) stop) where
-      pub passing_less : stop' - (at + 850) < stop - at
-      unfolding choose
-      passing_less = go (is_trailer k) refl
-        where
-          go : (x : Bool) → is_trailer k ≡ x → stop' - (at + 850) < stop - at
-          go true f = let e : stop' ≡ at + 850 = rw f at z in omega arith
-          go false f = let e : stop' ≡ stop = rw f at z in omega arith
-
-      pub passing_next : {s : State} {c : Climbing} {marked : Bool} → marked ≡ is_at told.repeat (first + w.records) → k ≡ code_of (record_from ascii sent at)
-          → s ≡ step_of book (code_of (record_from ascii sent at)) w.state (first + w.records) (record_from ascii sent at) marked
-          → c ≡ climbed (record_from ascii sent at) w.climbing
-          → Passing book today ascii sent first repeats told (record { state = s; climbing = c; records = w.records + 1 }) (at + 850) stop'
-      unfolding choose
-      passing_next {s} {c} {marked} g o e q = go (is_trailer k) refl
-        where
-          go : (x : Bool) → is_trailer k ≡ x → Passing book today ascii sent first repeats told (record { state = s; climbing = c; records = w.records + 1 }) (at + 850) stop'
-          go true f =
-              let y : stop' ≡ at + 850 = rw f at z in
-              record {
-                going = λ l. absurd (omega arith);
-                whole = λ l. absurd (omega arith);
-                done = λ l. ended walking left g (took book _ _ w s c marked e q) o (sym f) refl;
-              }
-          go false f =
-              let y : stop' ≡ stop = rw f at z in
-              let t = turned walking left g (took book _ _ w s c marked e q) o (sym f) refl in
-              record { going = λ l. t; whole = λ l. y ∙ p.whole h; done = λ l. finished t (omega (arith, p.whole h)) }
-
--- today goes along in the state that the header leaves
-module _ (book : Contents) (today : Today) (ascii : Bool) (sent : List ℕ) (first : ℕ) (repeats : Bool) (told : Told) (s : State)
-    (e : s ≡ opening book today repeats told.crowded first (shown ascii (take 850 sent))) where
-  same_today : s.header.today ≡ today
-  unfolding opening head
-  same_today = ap (λ (t : State). t.header.today) e
-
-  pub passing_opened : Judgeable first (shown ascii sent)
-      → Passing book s.header.today ascii sent first repeats told (record { state = s; climbing = no_climb; records = 1 }) 850 (length sent)
-  passing_opened j =
-      subst (λ (t : Today). Passing book t ascii sent first repeats told (record { state = s; climbing = no_climb; records = 1 }) 850 (length sent)) (sym same_today)
-      (passing_begun j e)
-
-  pub passed : (w : Walked) → w ≡ walk_of book s.header.today repeats told first (shown ascii sent) → w ≡ walk_of book today repeats told first (shown ascii sent)
-  passed w q = q ∙ ap (λ (t : Today). walk_of book t repeats told first (shown ascii sent)) same_today

@@ -1,5 +1,5 @@
 -- The row of a batch over its division: its findings in document 01's order, its counts and its total (01 Batch reasons, Report).
-use Rattle.std.specs.Prelude.{◌≡◌, Bool, true, false, List, [], ◌∷◌, ◌++◌, map, ℕ, ◌+◌, ◌/◌, ◌%◌, ◌≤◌, eqb, length}
+use Rattle.std.specs.Prelude.{Option, is_some, unwrap_or, Err, ◌≡◌, Bool, true, false, List, [], ◌∷◌, ◌++◌, map, ℕ, ◌+◌, ◌/◌, ◌%◌, ◌≤◌, eqb, length}
 use Rattle.record.specs.declared.codes.Letter.{Letter}
 use Rattle.record.specs.Choice.{◌and◌, choose}
 use Rattle.record.specs.Fields.{summary_total_amount, agency_location_code, check_symbol_number, check_first_serial_number, check_accounting_month_and_year, payment_id, payment_type_code, payment_location_code, state_code, country_code, original_currency_code, business_event_type_code, account_amount, procurement_amount}
@@ -8,9 +8,8 @@ use Rattle.record.specs.Tests.{digits}
 use Rattle.record.specs.Numeral.{numeral}
 use Rattle.record.specs.Codes.{code_of, letter_in}
 use Rattle.money.specs.Money.{split, cents, total}
-use Rattle.calendar.specs.declared.Today.{Today}
+use Rattle.calendar.specs.declared.Day.{Day}
 use Rattle.calendar.specs.Clock.{month_in}
-use Rattle.book.specs.declared.search.Listing.{Listing}
 use Rattle.book.specs.Book.{Contents, listing}
 use Rattle.nesting.specs.Division.{Record, Payment, Batch, LegalBatch, batch_lines}
 use Rattle.nesting.specs.Paid.{paid, paid_by}
@@ -18,7 +17,8 @@ use Rattle.nesting.specs.Records.{cut}
 use Rattle.tables.specs.Tables.{member}
 use Rattle.kinds.specs.Kinds.{kind, crowded}
 use Rattle.reasons.specs.declared.Finding.{Finding}
-use Rattle.reasons.specs.Findings.{found, first}
+use Rattle.reasons.specs.declared.Reason.TheVariants.{Accounts, Procurements, Lacking, Crowded, Sum}
+use Rattle.reasons.specs.Findings.{Checked, sound, found, first}
 use Rattle.rules.specs.declared.Codes.{Codes}
 use Rattle.rules.specs.declared.Context.{Context}
 use Rattle.rules.specs.Rules.{Rule, check, among, header, detail, party, account, procurement, lone_procurement, trailer, rules_for, findings}
@@ -49,7 +49,7 @@ first_serial h = choose (digits (held h check_first_serial_number)) (numeral (he
 
 -- what the rules of a record know beside it: whether its number repeats an earlier one, whether the payer is a CARS Reporter, which of its
 -- codes are in the book, the header's fields 18, 19 and 20, the earlier payments, and today (02 W4)
-unfoldable pub context : Today → Record → Bool → Bool → Codes → List Payment → Context
+unfoldable pub context : Option Day → Record → Bool → Bool → Codes → List Payment → Context
 context today h repeats reporter codes earlier =
     record {
       repeats = repeats;
@@ -99,69 +99,69 @@ account_kinds [] = []
 account_kinds (p ∷ ps) = map kind p.accounts ++ account_kinds ps
 
 -- 12: more than 1,000 different kinds in the batch, with the header's record and field 76 (02 W1; 004 section 2.5)
-unfoldable pub too_many : ℕ → List Payment → Finding
-too_many n ps = found (choose (crowded (account_kinds ps)) 12 0) n 76
+unfoldable pub too_many : ℕ → List Payment → Checked Finding
+too_many n ps = found (choose (crowded (account_kinds ps)) (Err Crowded) sound) n 76
 
 -- field 9 equals the sum, except in BC (14, header's record)
-unfoldable pub summary : ℕ → Record → List Payment → Finding
-summary n h ps = found (choose (among (letter_of h) check) 0 (choose (eqb (cents (held h summary_total_amount)) (paid_by ps)) 0 14)) n 9
+unfoldable pub summary : ℕ → Record → List Payment → Checked Finding
+summary n h ps = found (choose (among (letter_of h) check) sound (choose (eqb (cents (held h summary_total_amount)) (paid_by ps)) sound (Err Sum))) n 9
 
 -- what the rules find in records that stand one after the other, each in its context; the first has this number
-unfoldable pub each : (Record → Context) → List Rule → ℕ → List Record → List Finding
+unfoldable pub each : (Record → Context) → List Rule → ℕ → List Record → List (Checked Finding)
 each known rules n [] = []
 each known rules n (r ∷ rs) = findings (known r) n r rules ++ each known rules (n + 1) rs
 
 -- the same of a payment's DP: the only one may leave its amount blank (01 Others)
-unfoldable pub each_procurement : Letter → Context → ℕ → List Record → List Finding
+unfoldable pub each_procurement : Letter → Context → ℕ → List Record → List (Checked Finding)
 each_procurement l c n [] = []
 each_procurement l c n (p ∷ []) = each (λ (r : Record). c) (rules_for l lone_procurement) n (p ∷ [])
 each_procurement l c n (p ∷ q ∷ ps) = each (λ (r : Record). c) (rules_for l procurement) n (p ∷ q ∷ ps)
 
 module _ (book : Contents) where
   -- what the book says of a location (kind 2); an unknown one is no CARS Reporter's (01 Code book)
-  unfoldable pub location : List ℕ → Listing
+  unfoldable pub location : List ℕ → Option Bool
   location v = listing 8 book.locations v
 
   -- the payer's location: field 14, or field 29 for DC (01 Others)
-  unfoldable pub payer : Record → Record → Listing
+  unfoldable pub payer : Record → Record → Option Bool
   payer h d = choose (among (letter_of h) check) (location (held d payment_location_code)) (location (held h agency_location_code))
 
   -- what the book says of a DT's BETC (field 86, kind 3): a credit or not; a blank one counts positive (01 Sums). Field 88 is not read
-  unfoldable pub betc : Record → Listing
+  unfoldable pub betc : Record → Option Bool
   betc t = listing 8 book.betcs (held t business_event_type_code)
 
   -- a DT as the sum sees it
   unfoldable pub entry_of : Record → Entry
-  entry_of t = ((betc t).flagged, cents (held t account_amount))
+  entry_of t = (unwrap_or (betc t) false, cents (held t account_amount))
 
   -- the codes of a header (field 14), of a detail (fields 28, 35, 38 and 52, and its payer's location) and, for the rules of a DT, its own (field 86)
   unfoldable pub header_codes : Record → Codes
-  header_codes h = location_only (location (held h agency_location_code)).listed
+  header_codes h = location_only (is_some (location (held h agency_location_code)))
 
   unfoldable pub detail_codes : Bool → Record → Codes
   detail_codes payer d =
       record {
         locations = payer;
         betcs = false;
-        types = (listing 25 book.types (held d payment_type_code)).listed;
-        states = (listing 2 book.states (held d state_code)).listed;
-        countries = (listing 2 book.countries (held d country_code)).listed;
-        currencies = (listing 3 book.currencies (held d original_currency_code)).listed;
+        types = is_some (listing 25 book.types (held d payment_type_code));
+        states = is_some (listing 2 book.states (held d state_code));
+        countries = is_some (listing 2 book.countries (held d country_code));
+        currencies = is_some (listing 3 book.currencies (held d original_currency_code));
       }
 
   unfoldable pub account_context : Context → Record → Context
-  account_context c t = with_codes c (betc_only (betc t).listed)
+  account_context c t = with_codes c (betc_only (is_some (betc t)))
 
   -- 9, 10 and 11, with the detail's record and fields 87, 96 and 76 (01 Batch reasons)
-  unfoldable pub sums : Bool → ℕ → Payment → List Finding
+  unfoldable pub sums : Bool → ℕ → Payment → List (Checked Finding)
   sums reporter n p =
-      found (choose (balances (paid p) (map entry_of p.accounts)) 0 9) n 87
-      ∷ found (choose (procures (paid p) (map (λ (r : Record). held r procurement_amount) p.procurements)) 0 10) n 96
-      ∷ found (choose (reporter and no_records p.accounts) 11 0) n 76
+      found (choose (balances (paid p) (map entry_of p.accounts)) sound (Err Accounts)) n 87
+      ∷ found (choose (procures (paid p) (map (λ (r : Record). held r procurement_amount) p.procurements)) sound (Err Procurements)) n 96
+      ∷ found (choose (reporter and no_records p.accounts) (Err Lacking) sound) n 76
       ∷ []
 
   -- a payment: its detail, its other records in file order, its sums
-  unfoldable pub payment : Letter → Context → ℕ → Payment → List Finding
+  unfoldable pub payment : Letter → Context → ℕ → Payment → List (Checked Finding)
   payment l c n p =
       findings c n p.detail (rules_for l detail)
       ++ (each (λ (r : Record). c) (rules_for l party) (n + 1) p.parties
@@ -169,20 +169,20 @@ module _ (book : Contents) where
       ++ (each_procurement l c (n + 1 + length p.parties + length p.accounts) p.procurements
       ++ sums c.reporter n p)))
 
-  module _ (today : Today) where
+  module _ (today : Option Day) where
     -- what the rules of a payment's records know
     unfoldable pub detail_context : Record → Bool → List Payment → Record → Context
-    detail_context h repeats earlier d = context today h repeats (payer h d).flagged (detail_codes (payer h d).listed d) earlier
+    detail_context h repeats earlier d = context today h repeats (unwrap_or (payer h d) false) (detail_codes (is_some (payer h d)) d) earlier
 
     -- each payment, after those earlier in the batch
-    unfoldable pub payments : Record → ℕ → List Payment → List Payment → List Finding
+    unfoldable pub payments : Record → ℕ → List Payment → List Payment → List (Checked Finding)
     payments h n earlier [] = []
     payments h n earlier (p ∷ ps) =
         payment (letter_of h) (detail_context h (member (id_of p) (map id_of earlier)) earlier p.detail) n p
         ++ payments h (n + size p) (earlier ++ p ∷ []) ps
 
     -- the findings of a batch in document 01's order; its header is record n, and repeats an earlier batch's schedule number or not
-    unfoldable pub batch_findings : Bool → ℕ → Batch → List Finding
+    unfoldable pub batch_findings : Bool → ℕ → Batch → List (Checked Finding)
     batch_findings repeats n b =
         findings (context today b.header repeats false (header_codes b.header) []) n b.header (rules_for (letter_of b.header) header)
         ++ (payments b.header (n + 1) [] b.payments
@@ -216,5 +216,5 @@ pub record Judgeable (n : ℕ) (rest : List ℕ) : Type 0 where
   pub batch : (b : Batch) × BatchOf n rest b
 
 -- the row is that of the batch with which the rest begins
-abbrev pub IsRow : Contents → Today → Bool → ℕ → List ℕ → Row → Type 0
+abbrev pub IsRow : Contents → Option Day → Bool → ℕ → List ℕ → Row → Type 0
 IsRow book today repeats n rest row = (b : Batch) → BatchOf n rest b → row ≡ row_of book today repeats n b

@@ -1,5 +1,5 @@
 -- How the walk goes from record to record. No promise to other crates rests on it: the proofs tie it to Batch.antt.
-use Rattle.std.specs.Prelude.{Bool, true, false, List, [], ◌∷◌, ◌++◌, ℕ, ◌+◌, ◌-◌, ◌*◌, ◌/◌, ◌<◌, eqb, ltb, length, take, drop, replicate}
+use Rattle.std.specs.Prelude.{Option, Some, None, is_some, unwrap_or, Err, Bool, false, List, [], ◌∷◌, ◌++◌, ℕ, ◌+◌, ◌-◌, ◌*◌, ◌/◌, ◌<◌, eqb, ltb, length, take, drop, replicate}
 use Rattle.record.specs.declared.codes.Letter.TheVariants.{N}
 use Rattle.record.specs.declared.codes.Code.{Code}
 use Rattle.record.specs.declared.codes.Code.TheVariants as code
@@ -11,26 +11,24 @@ use Rattle.record.specs.Codes.{code_of, is_trailer, letter_in}
 use Rattle.money.specs.declared.Amount.{Amount}
 use Rattle.money.specs.Money as money
 use Rattle.money.specs.Money.{worth, split, cents, Whole, comes_to}
-use Rattle.calendar.specs.declared.Today.{Today}
+use Rattle.calendar.specs.declared.Day.{Day}
 use Rattle.calendar.specs.Clock.{month_in}
-use Rattle.book.specs.declared.search.Listing.{Listing}
 use Rattle.book.specs.Book.{Contents}
 use Rattle.nesting.specs.Division.{Record}
 use Rattle.nesting.specs.Records.{line_of, cut}
 use Rattle.kinds.specs.Kinds.{kinds, crowded}
-use Rattle.repeats.specs.declared.Repeat.{Repeat}
-use Rattle.repeats.specs.declared.Repeat.TheVariants.{At, Nowhere}
 use Rattle.repeats.specs.declared.Sort.TheVariants.{Payments}
 use Rattle.repeats.specs.declared.climb.Climbing.{Climbing}
 use Rattle.repeats.specs.Repeats.{first_repeat}
 use Rattle.repeats.specs.Climb.{climbed, climbed_by}
 use Rattle.reasons.specs.declared.Finding.{Finding}
-use Rattle.reasons.specs.Findings.{found, sound, after}
+use Rattle.reasons.specs.declared.Reason.{Reason}
+use Rattle.reasons.specs.declared.Reason.TheVariants.{Blank, Accounts, Procurements, Lacking, Crowded, Sum}
+use Rattle.reasons.specs.Findings.{Checked, found, sound, after}
 use Rattle.rules.specs.declared.Codes.{Codes}
 use Rattle.rules.specs.declared.Context.{Context}
 use Rattle.rules.specs.Rules.{check, among, header, detail, party, account, procurement, lone_procurement, trailer, rules_for, findings, Kept}
 use Rattle.batch.specs.declared.Row.{Row}
-use Rattle.batch.specs.declared.Seeking.{Seeking}
 use Rattle.batch.specs.declared.pass.Told.{Told}
 use Rattle.batch.specs.declared.pass.Walked.{Walked}
 use Rattle.batch.specs.declared.payment.Open.{Open}
@@ -39,9 +37,9 @@ use Rattle.batch.specs.declared.walk.State.{State}
 use Rattle.batch.specs.Batch.{first_serial, no_codes, location_only, location, betc, detail_codes, account_context}
 
 -- the record with this number is the one that repeats
-unfoldable pub is_at : Repeat → ℕ → Bool
-is_at (At k) n = eqb k n
-is_at Nowhere n = false
+unfoldable pub is_at : Option ℕ → ℕ → Bool
+is_at (Some k) n = eqb k n
+is_at None n = false
 
 -- a payment of which only the detail was read
 unfoldable pub opened : ℕ → Context → Amount → Open
@@ -90,21 +88,21 @@ unfoldable pub lone_blank : Open → Bool
 lone_blank o = choose (eqb o.procurements 1) o.blank false
 
 -- 9, 10 and 11
-unfoldable pub account_reason : Open → ℕ
+unfoldable pub account_reason : Open → Checked Reason
 account_reason o =
-    choose (eqb o.accounts 0) 0
-    (choose (eqb o.accounts 1) (choose (eqb (worth o.sum.positive + worth o.sum.negative) (worth o.amount)) 0 9)
-    (choose (comes_to o.sum (worth o.amount)) 0 9))
+    choose (eqb o.accounts 0) sound
+    (choose (eqb o.accounts 1) (choose (eqb (worth o.sum.positive + worth o.sum.negative) (worth o.amount)) sound (Err Accounts))
+    (choose (comes_to o.sum (worth o.amount)) sound (Err Accounts)))
 
-unfoldable pub procurement_reason : Open → ℕ
+unfoldable pub procurement_reason : Open → Checked Reason
 procurement_reason o =
-    choose (eqb o.procurements 0) 0 (choose (lone_blank o) 0 (choose (eqb (worth o.procured) (worth o.amount)) 0 10))
+    choose (eqb o.procurements 0) sound (choose (lone_blank o) sound (choose (eqb (worth o.procured) (worth o.amount)) sound (Err Procurements)))
 
-unfoldable pub lack_reason : Open → ℕ
-lack_reason o = choose (o.context.reporter and eqb o.accounts 0) 11 0
+unfoldable pub lack_reason : Open → Checked Reason
+lack_reason o = choose (o.context.reporter and eqb o.accounts 0) (Err Lacking) sound
 
 -- what is wrong with the sums of the payment that ends
-unfoldable pub ended : Open → List Finding
+unfoldable pub ended : Open → List (Checked Finding)
 ended o =
     found (account_reason o) o.number 87 ∷ found (procurement_reason o) o.number 96 ∷ found (lack_reason o) o.number 76 ∷ []
 
@@ -124,17 +122,17 @@ context_of s repeats reporter codes =
     }
 
 -- the state with another first finding; with another payment and another count of DT too
-abbrev pub state : Finding → Header → Open → ℕ → Amount → ℕ → State
+abbrev pub state : Checked Finding → Header → Open → ℕ → Amount → ℕ → State
 state f h o payments total accounts =
     record { finding = f; header = h; payment = o; payments = payments; total = total; accounts = accounts }
 
-unfoldable pub knowing : State → Finding → Open → ℕ → State
+unfoldable pub knowing : State → Checked Finding → Open → ℕ → State
 knowing s f o accounts = state f s.header o s.payments s.total accounts
 
 -- a first DP may be blank; once there is a second, it may not
-unfoldable pub next_procurement : Open → ℕ → Record → List Finding
+unfoldable pub next_procurement : Open → ℕ → Record → List (Checked Finding)
 next_procurement o n r =
-    found (choose (lone_blank o) 1 0) (n - 1) 96
+    found (choose (lone_blank o) (Err Blank) sound) (n - 1) 96
     ∷ findings o.context n r (rules_for N (choose (eqb o.procurements 0) lone_procurement procurement))
 
 -- the state after a DX, after a DP
@@ -148,11 +146,11 @@ procured s n r =
     (with_procurement s.payment (blank (held r procurement_amount)) (cents (held r procurement_amount))) s.accounts
 
 -- 12, the trailer, and field 9's sum
-unfoldable pub last : State → ℕ → Record → List Finding
+unfoldable pub last : State → ℕ → Record → List (Checked Finding)
 last s n r =
-    found (choose s.header.crowded 12 0) s.header.number 76
+    found (choose s.header.crowded (Err Crowded) sound) s.header.number 76
     ∷ (findings (context_of s false false no_codes) n r (rules_for N trailer)
-    ++ found (choose (among s.header.letter check) 0 (choose (eqb (worth s.header.amount) (worth s.total)) 0 14)) s.header.number 9
+    ++ found (choose (among s.header.letter check) sound (choose (eqb (worth s.header.amount) (worth s.total)) sound (Err Sum))) s.header.number 9
     ∷ [])
 
 unfoldable pub trailed : State → ℕ → Record → State
@@ -169,7 +167,7 @@ no_climb = record { falls = false; greatest = replicate 20 0 }
 
 module _ (book : Contents) where
   -- what the header says, whether the batch is known to have too many kinds, and today
-  unfoldable pub head : Today → Bool → ℕ → Record → Header
+  unfoldable pub head : Option Day → Bool → ℕ → Record → Header
   head today crowded n h =
       record {
         number = n;
@@ -184,12 +182,12 @@ module _ (book : Contents) where
       }
 
   -- what the header's rules know
-  abbrev pub head_context : Today → Bool → Record → Context
+  abbrev pub head_context : Option Day → Bool → Record → Context
   head_context today repeats h =
       record {
         repeats = repeats;
         reporter = false;
-        codes = location_only (location book (held h agency_location_code)).listed;
+        codes = location_only (is_some (location book (held h agency_location_code)));
         symbol = held h check_symbol_number;
         serial = first_serial h;
         month = month_in (held h check_accounting_month_and_year);
@@ -199,20 +197,20 @@ module _ (book : Contents) where
       }
 
   -- before the first payment: an empty one of no reporter, with which nothing is wrong
-  unfoldable pub opening : Today → Bool → Bool → ℕ → Record → State
+  unfoldable pub opening : Option Day → Bool → Bool → ℕ → Record → State
   opening today repeats crowded n h =
       state (after sound (findings (head_context today repeats h) n h (rules_for (letter_in (code_of h)) header))) (head today crowded n h)
       (opened n (head_context today repeats h) (split 0)) 0 (split 0) 0
 
   -- the payer's location
-  unfoldable pub payer_in : Header → Record → Listing
+  unfoldable pub payer_in : Header → Record → Option Bool
   payer_in h d = choose (among h.letter check) (location book (held d payment_location_code)) h.payer
 
   -- what the rules of a payment's records know
   unfoldable pub paying_context : State → Bool → Record → Context
   paying_context s repeats r =
       let payer = payer_in s.header r in
-      context_of s repeats payer.flagged (detail_codes book payer.listed r)
+      context_of s repeats (unwrap_or payer false) (detail_codes book (is_some payer) r)
 
   unfoldable pub detailed : State → ℕ → Record → Bool → State
   detailed s n r repeats =
@@ -223,7 +221,7 @@ module _ (book : Contents) where
   unfoldable pub accounted : State → ℕ → Record → State
   accounted s n r =
       knowing s (after s.finding (findings (account_context book s.payment.context r) n r (rules_for N account)))
-      (with_account s.payment (betc book r).flagged (cents (held r account_amount))) (s.accounts + 1)
+      (with_account s.payment (unwrap_or (betc book r) false) (cents (held r account_amount))) (s.accounts + 1)
 
   -- the state after a record, by its code
   unfoldable pub step_of : Code → State → ℕ → Record → Bool → State
@@ -261,18 +259,13 @@ module _ (book : Contents) where
       }
 
   -- the walk over what begins with a batch: the header, and the records behind it up to the first BT
-  unfoldable pub walk_of : Today → Bool → Told → ℕ → List ℕ → Walked
+  unfoldable pub walk_of : Option Day → Bool → Told → ℕ → List ℕ → Walked
   walk_of today repeats told n rest =
       walked_over told (n + 1) (record { state = opening today repeats told.crowded n (seen (line_of n) (take 850 rest)); climbing = no_climb; records = 1 })
       (to_trailer (cut (n + 1) (length rest / 850 - 1) (drop 850 rest)))
 
--- the repeat is somewhere
-unfoldable pub is_somewhere : Repeat → Bool
-is_somewhere (At k) = true
-is_somewhere Nowhere = false
-
 -- the first repeat of a Payment ID among the records of the bytes
-abbrev pub first_in : ℕ → List ℕ → Repeat
+abbrev pub first_in : ℕ → List ℕ → Option ℕ
 first_in n bytes = first_repeat Payments n [] (cut n (length bytes / 850) bytes)
 
 -- too many kinds among the DT of the bytes
@@ -281,15 +274,15 @@ crowded_in n bytes = crowded (kinds (cut n (length bytes / 850) bytes))
 
 -- the walk is told of a repeat, or of too many kinds
 unfoldable pub is_told : Told → Bool
-is_told t = t.crowded or is_somewhere t.repeat
+is_told t = t.crowded or is_some t.repeat
 
 -- what is learnt of the bytes of a batch: the repeat is sought where an ID fell, and kinds are counted where there are more than 1,000 DT
 unfoldable pub learnt : Bool → ℕ → ℕ → List ℕ → Told
-learnt falls accounts n bytes = record { repeat = choose falls (first_in n bytes) Nowhere; crowded = ltb 1000 accounts and crowded_in n bytes }
+learnt falls accounts n bytes = record { repeat = choose falls (first_in n bytes) None; crowded = ltb 1000 accounts and crowded_in n bytes }
 
--- after a walk: where it was told of nothing, the next is told of what was learnt, if that is something
-unfoldable pub sought : Told → Told → Seeking
-sought told next = choose (is_told told) (record { told = told; again = false }) (record { told = next; again = is_told next })
+-- what a second walk is told of: what was learnt, if that is something
+unfoldable pub told_of : Told → Option Told
+told_of told = choose (is_told told) (Some told) None
 
 -- the row at the end of the walk
 unfoldable pub row_at : State → ℕ → ℕ → Row

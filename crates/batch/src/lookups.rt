@@ -5,7 +5,7 @@ ghost use Rattle.book.specs.Book.{Usable, listed_at};
 ghost use Rattle.batch.specs.Batch.{location_only, betc_only, location, betc, detail_codes};
 
 use book::Book;
-use book::search::{Listing, look_up};
+use book::search::look_up;
 use record::layout::*;
 use record::{Field, Line};
 use rules::Codes;
@@ -39,7 +39,13 @@ pub(crate) fn betc_only(listed: bool) -> Codes
 }
 
 // What the book says of the location in a field (14, 29).
-pub(crate) fn location(book: &[u8], shelves: Book, rec: &[u8], line: Line, field: Field) -> Listing
+pub(crate) fn location(
+    book: &[u8],
+    shelves: Book,
+    rec: &[u8],
+    line: Line,
+    field: Field,
+) -> Option<bool>
     requires { Usable book.now shelves × Has rec.now field × (field.width ≤ 40) }
     ensures { result ≡ location (listed_at book.now shelves) (held (seen line rec.now) field) }
 {
@@ -48,7 +54,7 @@ pub(crate) fn location(book: &[u8], shelves: Book, rec: &[u8], line: Line, field
 }
 
 // What the book says of a DT's BETC (field 86).
-pub(crate) fn betc(book: &[u8], shelves: Book, rec: &[u8], line: Line) -> Listing
+pub(crate) fn betc(book: &[u8], shelves: Book, rec: &[u8], line: Line) -> Option<bool>
     requires { Usable book.now shelves × (length rec.now ≡ 850) }
     ensures { result ≡ betc (listed_at book.now shelves) (seen line rec.now) }
 {
@@ -78,9 +84,9 @@ pub(crate) fn detail_codes(
     Codes {
         locations: location,
         betcs: false,
-        types: payment_type.listed,
-        states: state.listed,
-        countries: country.listed,
-        currencies: currency.listed,
+        types: payment_type.is_some(),
+        states: state.is_some(),
+        countries: country.is_some(),
+        currencies: currency.is_some(),
     }
 }

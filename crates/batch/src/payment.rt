@@ -5,7 +5,7 @@ ghost use Rattle.reasons.specs.Findings.{after};
 ghost use Rattle.batch.specs.Walk.{Small, Own, opened, with_account, with_procurement, lone_blank, account_reason, procurement_reason, lack_reason, ended};
 
 use money::{Amount, Signed};
-use reasons::Finding;
+use reasons::{Finding, Reason};
 use rules::Context;
 
 // What is known of a payment: its detail's record, what its rules know of the batch, its amount, its DT and their signed sum, its DP,
@@ -82,73 +82,72 @@ pub(crate) fn is_lone_blank(payment: Open) -> bool
     false
 }
 
-// 9: the DT of the payment do not come to its amount. A lone DT is positive, whatever its BETC.
-fn account_reason(payment: Open) -> usize
+// The DT of the payment do not come to its amount. A lone DT is positive, whatever its BETC.
+fn account_reason(payment: Open) -> Result<(), Reason>
     requires { Own 65535 payment }
     ensures { result ≡ account_reason payment }
 {
     let amount = payment.amount;
     let sum = payment.sum;
     if payment.accounts == 0 {
-        return 0;
+        return Ok(());
     }
     if payment.accounts == 1 {
         let positive = sum.positive;
         let negative = sum.negative;
         let lone = money::plus(positive, negative);
         if money::is_equal(lone, amount) {
-            return 0;
+            return Ok(());
         }
-        return 9;
+        return Err(Reason::Accounts);
     }
     if money::comes_to(sum, amount) {
-        return 0;
+        return Ok(());
     }
-    9
+    Err(Reason::Accounts)
 }
 
-// 10: the DP of the payment do not come to its amount.
-fn procurement_reason(payment: Open) -> usize
+// The DP of the payment do not come to its amount.
+fn procurement_reason(payment: Open) -> Result<(), Reason>
     requires { Own 65535 payment }
     ensures { result ≡ procurement_reason payment }
 {
     let amount = payment.amount;
     let procured = payment.procured;
     if payment.procurements == 0 {
-        return 0;
+        return Ok(());
     }
     if is_lone_blank(payment) {
-        return 0;
+        return Ok(());
     }
     if money::is_equal(procured, amount) {
-        return 0;
+        return Ok(());
     }
-    10
+    Err(Reason::Procurements)
 }
 
-// 11: a CARS Reporter's payment has no DT.
-fn lack_reason(payment: Open) -> usize
+// A CARS Reporter's payment has no DT.
+fn lack_reason(payment: Open) -> Result<(), Reason>
     ensures { result ≡ lack_reason payment }
 {
     let context = payment.context;
     if context.reporter {
         if payment.accounts == 0 {
-            return 11;
+            return Err(Reason::Lacking);
         }
     }
-    0
+    Ok(())
 }
 
 // What is known, and what is wrong with the sums of the payment that ends.
-pub(crate) fn end(known: Finding, payment: Open) -> Finding
+#[tactic(auto, using(crate::proofs::Laws::ending), unfolding(reasons::specs::Findings::noted))]
+pub(crate) fn end(known: Result<(), Finding>, payment: Open) -> Result<(), Finding>
     requires { Own 65535 payment }
     ensures { result ≡ after known (ended payment) }
 {
+    known?;
     let number = payment.number;
-    let accounts = account_reason(payment);
-    let after_accounts = reasons::note(known, accounts, number, 87);
-    let procurements = procurement_reason(payment);
-    let after_procurements = reasons::note(after_accounts, procurements, number, 96);
-    let lack = lack_reason(payment);
-    reasons::note(after_procurements, lack, number, 76)
+    reasons::find(account_reason(payment), number, 87)?;
+    reasons::find(procurement_reason(payment), number, 96)?;
+    reasons::find(lack_reason(payment), number, 76)
 }

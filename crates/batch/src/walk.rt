@@ -1,12 +1,13 @@
 // The walk over a batch: what is known before a record, and after it. A step sees one record, never those around it.
-ghost use Rattle.std.specs.Prelude.{◌≡◌, false, ◌≤◌, eqb, length};
+ghost use Rattle.std.specs.Prelude.{◌≡◌, false, ◌≤◌, eqb, length, Err};
 ghost use Rattle.record.specs.declared.codes.Letter.TheVariants.{N};
 ghost use Rattle.record.specs.Choice.{choose};
 ghost use Rattle.record.specs.Value.{seen};
 ghost use Rattle.record.specs.Codes.{code_of};
 ghost use Rattle.money.specs.Money.{worth, Whole};
 ghost use Rattle.book.specs.Book.{Usable, listed_at};
-ghost use Rattle.reasons.specs.Findings.{after};
+ghost use Rattle.reasons.specs.declared.Reason.TheVariants.{Blank, Crowded, Sum};
+ghost use Rattle.reasons.specs.Findings.{sound, after};
 ghost use Rattle.rules.specs.Rules.{Kept, among, check, procurement, lone_procurement, rules_for, findings};
 ghost use Rattle.batch.specs.Batch.{first_serial, with_codes};
 ghost use Rattle.batch.specs.Walk.{Room, lone_blank, head, opening, context_of, knowing, payer_in, paying_context, next_procurement, last, detailed, partied, accounted, procured, trailed, step_of};
@@ -14,10 +15,9 @@ ghost use Rattle.batch.specs.Walk.{Room, lone_blank, head, opening, context_of, 
 use crate::payment::Open;
 use crate::{lookups, payment};
 use book::Book;
-use book::search::Listing;
-use calendar::{Month, Today};
+use calendar::{Day, Month};
 use money::Amount;
-use reasons::Finding;
+use reasons::{Finding, Reason};
 use record::Line;
 use record::codes::{Code, Letter, code_bytes, code_of, letter_in};
 use record::layout::*;
@@ -34,19 +34,19 @@ use rules::{Codes, Context};
 pub(crate) struct Header {
     pub(crate) number: usize,
     pub(crate) letter: Letter,
-    pub(crate) payer: Listing,
+    pub(crate) payer: Option<bool>,
     pub(crate) symbol: [u8; 4],
     pub(crate) serial: u64,
-    pub(crate) month: Month,
+    pub(crate) month: Option<Month>,
     pub(crate) amount: Amount,
     pub(crate) crowded: bool,
-    pub(crate) today: Today,
+    pub(crate) today: Option<Day>,
 }
 
 // What is known after a record: the first finding, what the header says, the open payment, the batch's payments, total and DT so far.
 #[derive(Clone, Copy)]
 pub(crate) struct State {
-    pub(crate) finding: Finding,
+    pub(crate) finding: Result<(), Finding>,
     pub(crate) header: Header,
     pub(crate) payment: Open,
     pub(crate) payments: u64,
@@ -84,7 +84,7 @@ fn first_serial(rec: &[u8], line: Line) -> u64
 fn read_header(
     book: &[u8],
     shelves: Book,
-    today: Today,
+    today: Option<Day>,
     rec: &[u8],
     line: Line,
     crowded: bool,
@@ -118,7 +118,7 @@ fn read_header(
 pub(crate) fn open_batch(
     book: &[u8],
     shelves: Book,
-    today: Today,
+    today: Option<Day>,
     rec: &[u8],
     line: Line,
     repeats: bool,
@@ -132,7 +132,7 @@ pub(crate) fn open_batch(
     let month = header.month;
     let letter = header.letter;
     let payer = header.payer;
-    let codes = lookups::location_only(payer.listed);
+    let codes = lookups::location_only(payer.is_some());
     let payments: u64 = 0;
     let none = Amount { high: 0, low: 0 };
     let context = Context {
@@ -146,12 +146,7 @@ pub(crate) fn open_batch(
         total: none,
         today,
     };
-    let sound = Finding {
-        reason: 0,
-        record_number: 0,
-        field: 0,
-    };
-    let finding = header_rules(sound, rec, line, letter, context);
+    let finding = header_rules(Ok(()), rec, line, letter, context);
     let payment = payment::begin(line.number, context, none);
     State {
         finding,
@@ -186,7 +181,7 @@ fn context_of(state: State, repeats: bool, reporter: bool, codes: Codes) -> Cont
 }
 
 // What the book says of a payer's location: the header's, or in a check batch the detail's (field 29).
-fn payer_of(book: &[u8], shelves: Book, rec: &[u8], line: Line, header: Header) -> Listing
+fn payer_of(book: &[u8], shelves: Book, rec: &[u8], line: Line, header: Header) -> Option<bool>
     requires { Usable book.now shelves × (length rec.now ≡ 850) }
     ensures { result ≡ payer_in (listed_at book.now shelves) header (seen line rec.now) }
 {
@@ -211,8 +206,8 @@ fn paying_context(
 {
     let header = state.header;
     let payer = payer_of(book, shelves, rec, line, header);
-    let codes = lookups::detail_codes(book, shelves, rec, line, payer.listed);
-    context_of(state, repeats, payer.flagged, codes)
+    let codes = lookups::detail_codes(book, shelves, rec, line, payer.is_some());
+    context_of(state, repeats, payer.unwrap_or(false), codes)
 }
 
 // A detail: the payment before it ends, and its own begins.
@@ -250,7 +245,7 @@ fn take_detail(
 }
 
 // The state with another finding, another payment and another count of DT.
-fn know(state: State, finding: Finding, payment: Open, accounts: usize) -> State
+fn know(state: State, finding: Result<(), Finding>, payment: Open, accounts: usize) -> State
     ensures { result ≡ knowing state finding payment accounts }
 {
     let header = state.header;
@@ -296,17 +291,22 @@ fn take_account(book: &[u8], shelves: Book, rec: &[u8], line: Line, state: State
     let before = state.payment;
     let paying = before.context;
     let betc = lookups::betc(book, shelves, rec, line);
-    let codes = lookups::betc_only(betc.listed);
+    let codes = lookups::betc_only(betc.is_some());
     let context = with_codes(paying, codes);
     let finding = account_rules(known, rec, line, context);
     let amount = money::field_amount(rec, line, ACCOUNT_AMOUNT);
-    let payment = payment::with_account(before, betc.flagged, amount);
+    let payment = payment::with_account(before, betc.unwrap_or(false), amount);
     let accounts = state.accounts + 1;
     know(state, finding, payment, accounts)
 }
 
 // The rules of a DP that may be the payment's only one, or is not.
-fn own_rules(known: Finding, rec: &[u8], line: Line, payment: Open) -> Finding
+fn own_rules(
+    known: Result<(), Finding>,
+    rec: &[u8],
+    line: Line,
+    payment: Open,
+) -> Result<(), Finding>
     requires { (length rec.now ≡ 850) × Kept payment.context }
     ensures { result ≡ after known (findings payment.context line.number (seen line rec.now) (rules_for N (choose (eqb payment.procurements 0) lone_procurement procurement))) }
 {
@@ -318,24 +318,27 @@ fn own_rules(known: Finding, rec: &[u8], line: Line, payment: Open) -> Finding
 }
 
 // What a DP finds. Where it is the second, a blank first one is at fault too: it was let pass as the only one.
-fn procurement_findings(known: Finding, rec: &[u8], line: Line, payment: Open) -> Finding
+fn procurement_findings(
+    known: Result<(), Finding>,
+    rec: &[u8],
+    line: Line,
+    payment: Open,
+) -> Result<(), Finding>
     requires { (length rec.now ≡ 850) × Kept payment.context × (1 ≤ line.number) }
     ensures { result ≡ after known (next_procurement payment line.number (seen line rec.now)) }
 {
-    let earlier = line.number - 1;
-    let reason = first_reason(payment);
-    let after_first = reasons::note(known, reason, earlier, 96);
-    own_rules(after_first, rec, line, payment)
+    let known = reasons::note(known, first_reason(payment), line.number - 1, 96);
+    own_rules(known, rec, line, payment)
 }
 
-// 1 where the payment's one DP so far is blank.
-fn first_reason(payment: Open) -> usize
-    ensures { result ≡ choose (lone_blank payment) 1 0 }
+// Refused where the payment's one DP so far is blank.
+fn first_reason(payment: Open) -> Result<(), Reason>
+    ensures { result ≡ choose (lone_blank payment) (Err Blank) sound }
 {
     if payment::is_lone_blank(payment) {
-        return 1;
+        return Err(Reason::Blank);
     }
-    0
+    Ok(())
 }
 
 fn take_procurement(rec: &[u8], line: Line, state: State) -> State
@@ -351,47 +354,50 @@ fn take_procurement(rec: &[u8], line: Line, state: State) -> State
     know(state, finding, payment, state.accounts)
 }
 
-// 12: too many kinds of TAS/BETC in the batch.
-fn crowd_reason(crowded: bool) -> usize
-    ensures { result ≡ choose crowded 12 0 }
+// Too many kinds of TAS/BETC in the batch.
+fn crowd_reason(crowded: bool) -> Result<(), Reason>
+    ensures { result ≡ choose crowded (Err Crowded) sound }
 {
     if crowded {
-        return 12;
+        return Err(Reason::Crowded);
     }
-    0
+    Ok(())
 }
 
-// 14: field 9 is not the sum of the payments, except in BC.
-fn summary_reason(header: Header, total: Amount) -> usize
+// Field 9 is not the sum of the payments, except in BC.
+fn summary_reason(header: Header, total: Amount) -> Result<(), Reason>
     requires { Whole header.amount × Whole total }
-    ensures { result ≡ choose (among header.letter check) 0 (choose (eqb (worth header.amount) (worth total)) 0 14) }
+    ensures { result ≡ choose (among header.letter check) sound (choose (eqb (worth header.amount) (worth total)) sound (Err Sum)) }
 {
     let letter = header.letter;
     let declared = header.amount;
     if is_check(letter) {
-        return 0;
+        return Ok(());
     }
     if money::is_equal(declared, total) {
-        return 0;
+        return Ok(());
     }
-    14
+    Err(Reason::Sum)
 }
 
-// What is found at the end of a batch: 12, then the trailer, then field 9's sum.
-fn last_findings(known: Finding, rec: &[u8], line: Line, state: State) -> Finding
+// What is found at the end of a batch: too many kinds, then the trailer, then field 9's sum.
+fn last_findings(
+    known: Result<(), Finding>,
+    rec: &[u8],
+    line: Line,
+    state: State,
+) -> Result<(), Finding>
     requires { (length rec.now ≡ 850) × Room line.number state × (line.number ≤ 65535) }
     ensures { result ≡ after known (last state line.number (seen line rec.now)) }
 {
     let header = state.header;
     let total = state.total;
     let opening = header.number;
-    let crowd = crowd_reason(header.crowded);
-    let after_crowd = reasons::note(known, crowd, opening, 76);
+    let known = reasons::note(known, crowd_reason(header.crowded), opening, 76);
     let none = lookups::location_only(false);
     let context = context_of(state, false, false, none);
-    let after_trailer = trailer_rules(after_crowd, rec, line, context);
-    let summary = summary_reason(header, total);
-    reasons::note(after_trailer, summary, opening, 9)
+    let known = trailer_rules(known, rec, line, context);
+    reasons::note(known, summary_reason(header, total), opening, 9)
 }
 
 // The trailer: the last payment ends, and the batch.

@@ -1,6 +1,6 @@
 -- A file with one batch: the batch's records are the part between FH and FT.
 -- Assumes nothing.
-use mathlib.Core.Path.{◌≡◌, refl, sym, ◌∙◌}
+use mathlib.Core.Path.{◌≡◌, refl, sym, ap, ◌∙◌}
 use mathlib.Core.Bool.{false}
 use mathlib.Core.List.{List, [], ◌∷◌, append-nil}
 use Prim.Native.Nat.{ℕ, ◌+◌, ◌*◌, ◌/◌, ◌-◌, ◌≤◌}
@@ -9,17 +9,15 @@ use lib.ListN.{length, take, drop, length-drop, length-append}
 use lib.Seq.{length-take-le}
 use Rattle.page.specs.CodePage.{shown}
 use Rattle.page.proofs.Shown.{shown_plain}
-use Rattle.nesting.specs.declared.Verdict.TheVariants.{Legal}
+use Rattle.std.specs.Prelude.{Result, Ok}
 use Rattle.nesting.specs.Division.{All, Batch, Division, LegalBatch, DivisionOf, batch_lines}
 use Rattle.nesting.specs.Records.{records, Cuttable}
-use Rattle.nesting.specs.Promise.{Nested}
-use Rattle.nesting.specs.Promise.Nested.{legal}
 use Rattle.nesting.proofs.Cuts.{cut_length}
 use Rattle.nesting.proofs.Parts.{batch_between, batch_part}
 use Rattle.batch.specs.Batch.{Judgeable}
 use Rattle.survey.specs.declared.Survey.{Survey}
-use Rattle.survey.specs.Survey.{Surveyed}
-use Rattle.survey.proofs.Theorems.{nested}
+use Rattle.survey.specs.Survey.{divided, Surveyed}
+use Rattle.survey.specs.Survey.Surveyed.{legal, refused}
 
 -- the bytes between FH and FT
 abbrev pub between : List ℕ → List ℕ
@@ -61,16 +59,16 @@ only f w d h [] e l g = absurd (omega arith)
 only f w d h (b ∷ []) e l g = part f w d h b e g.0
 only f w d h (b ∷ c ∷ bs) e l g = absurd (omega arith)
 
-divided : (f : List ℕ) (n k : ℕ) → Cuttable f → Nested (records f) (Legal n k) → n ≡ 1 → Lone f
-divided f n k w (legal d h) l = only f w d h d.batches refl l h.legal.batches
-
-lone : (f : List ℕ) (s : Survey) (n k : ℕ) → Cuttable f → Surveyed f s → s.nested ≡ Legal n k → n ≡ 1 → Lone f
-lone f s n k w t e l = divided f n k w (rw (← e) (nested f s t)) l
+lone : (f : List ℕ) (r : Result Survey ℕ) (s : Survey) → Cuttable f → Surveyed f r → r ≡ Ok s → s.counts.batches ≡ 1 → Lone f
+lone f r s w (legal d h) e l =
+    let q : divided (records f) d ≡ s = cc in
+    only f w d h d.batches refl (ap (λ (x : Survey). x.counts.batches) q ∙ l) h.legal.batches
+lone f r s w (refused k t) e l = absurd (cc)
 
 -- in the words of the bounds that the part's ends ask for
-module _ (f : List ℕ) (s : Survey) (n k : ℕ) (w : Cuttable f) (t : Surveyed (shown false f) s) (e : s.nested ≡ Legal n k) (l : n ≡ 1) where
+module _ (f : List ℕ) (r : Result Survey ℕ) (s : Survey) (w : Cuttable f) (t : Surveyed (shown false f) r) (e : r ≡ Ok s) (l : s.counts.batches ≡ 1) where
   here : Lone f
-  here = lone f s n k w (rw (shown_plain f) at t) e l
+  here = lone f r s w (rw (shown_plain f) at t) e l
 
   pub lone_start : 850 ≤ length f
   lone_start = omega (arith, here.room)

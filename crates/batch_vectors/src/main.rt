@@ -2,11 +2,9 @@
 // Where the records do not nest as one batch it says `no batch`.
 #![tactic(auto)]
 
-mod changes;
 mod files;
-mod table;
 
-ghost use Rattle.std.specs.Prelude.{◌≤◌, length, false};
+ghost use Rattle.std.specs.Prelude.{◌≡◌, false};
 ghost use Rattle.page.specs.CodePage.{shown};
 ghost use Rattle.book.specs.Book.{Usable};
 ghost use Rattle.nesting.specs.Records.{Cuttable};
@@ -14,157 +12,183 @@ ghost use Rattle.batch.specs.Batch.{Judgeable};
 
 use batch::Row;
 use book::Book;
-use calendar::{Today, clock};
-use files::{AT_HAND, SPACE};
-use nesting::Verdict;
+use calendar::{Day, clock};
+use cases::changes;
+use cases::files::{AT_HAND, AtHand, File};
+use files::MOST;
 use record::Line;
+use std::alloc::AllocError;
+use std::io;
 
-// The most bytes of the table.
+// The most bytes of the code book, and of the table.
+const BOOK: usize = 4096;
+
 const TABLE: usize = 131072;
 
-fn show(n: u64) {
-    io::print_decimal(1, n);
-    io::write_all(1, b" ");
-}
+// The columns of a row's label. Behind it stand words: the batch's letter, 1 where its schedule number repeats an earlier batch's and 2
+// where today is lent, its payments, the DX, DT and DP of each, the number of changes, and the changes: of each a record of the file, its
+// first and last position (004 counts both from 1), and the bytes, in hexadecimal, that are written there again and again.
+const LABEL: usize = 48;
 
-fn show_count(n: usize) {
-    show(n as u64);
-}
+// The last four digits of a number count.
+type Words<'a> = cases::words::Words<'a, 10000>;
 
 // The eight numbers of a row.
-fn show_row(row: Row) {
+fn show_row(rt: &impl Print, row: Row) -> io::Result<()> {
     let total = row.total;
-    let finding = row.finding;
-    show_count(row.first_record);
-    show_count(row.records);
-    show(row.payments);
-    show(total.high);
-    show(total.low);
-    show_finding(finding.reason, finding.record_number, finding.field);
-}
-
-fn show_finding(reason: usize, number: usize, field: usize) {
-    show_count(reason);
-    show_count(number);
-    io::print_decimal(1, field as u64);
-}
-
-fn show_none() {
-    io::write_all(1, b"no batch");
+    print!(rt;
+        "{} {} {} {} {} ",
+        row.first_record, row.records, row.payments, total.high, total.low
+    )?;
+    match row.finding {
+        Ok(()) => print!(rt; "0 0 0"),
+        Err(finding) => {
+            let reason = u64::from(finding.reason);
+            print!(rt; "{reason} {} {}", finding.record_number, finding.field)
+        }
+    }
 }
 
 // Today by a case's word: 2024-02-29 is lent where it is 2.
-fn today_by(word: usize) -> Today {
+fn today_by(word: usize) -> Option<Day> {
     if word == 2 {
-        return clock::read_today(b"\xF2\xF0\xF2\xF4\xF0\xF2\xF2\xF9");
+        clock::read_today(b"\xF2\xF0\xF2\xF4\xF0\xF2\xF2\xF9")
+    } else {
+        None
     }
-    Today::Unlent
 }
 
 // The row of the batch whose records are the part of the file behind FH; its schedule number repeats where the case's word is 1.
-fn show_batch(book: &[u8], shelves: Book, part: &[u8], word: usize)
+fn show_batch(
+    rt: &impl Print,
+    book: &[u8],
+    shelves: Book,
+    part: &[u8],
+    word: usize,
+) -> io::Result<()>
     requires { Usable book.now shelves × Judgeable 2 (shown false part.now) }
 {
     let first = Line {
         number: 2,
         ascii: false,
     };
-    let today = today_by(word);
-    show_row(batch::judge_batch(book, shelves, today, part, first, word == 1));
+    show_row(
+        rt,
+        batch::judge_batch(book, shelves, today_by(word), part, first, word == 1),
+    )
 }
 
 // A file's only batch stands between FH and FT.
-fn show_file(book: &[u8], shelves: Book, file: &[u8], word: usize)
+fn show_file(
+    rt: &impl Print,
+    book: &[u8],
+    shelves: Book,
+    file: &[u8],
+    word: usize,
+) -> io::Result<()>
     requires { Usable book.now shelves × Cuttable file.now }
 {
-    let found = survey::survey_file(file, false);
-    let nested = found.nested;
-    match nested {
-        Verdict::Legal(batches, _) => {
-            if batches == 1 {
-                let end = file.len() - 850;
-                show_batch(book, shelves, &file[850..end], word);
-            } else {
-                show_none();
-            }
+    match survey::survey_file(file, false) {
+        Ok(found) if found.counts.batches == 1 => {
+            show_batch(rt, book, shelves, &file[850..file.len() - 850], word)
         }
-        Verdict::Refused(_) => {
-            show_none();
-        }
+        _ => print!(rt; "no batch"),
     }
 }
 
-// The first records of the space are a file.
-fn show_records(book: &[u8], shelves: Book, space: &[u8], records: usize, word: usize)
-    requires { Usable book.now shelves × (records ≤ 1100) }
+// Makes a row's changes; their number stands before them.
+fn make_changes(file: &mut File<MOST>, words: &mut Words<'_>)
+    ensures { file.new.count ≡ file.old.count }
 {
-    let size = records * 850;
-    if size <= space.len() {
-        show_file(book, shelves, &space[..size], word);
+    for _ in 0..words.next_number() {
+        changes::change_record(file, words);
     }
 }
 
 // The case of a row.
 fn show_case(
+    rt: &impl Print,
     book: &[u8],
     shelves: Book,
-    file: &mut [u8; SPACE],
-    at_hand: &[u8; AT_HAND],
+    file: &mut File<MOST>,
+    at_hand: AtHand<'_>,
     row: &[u8],
-)
-    requires { Usable book.now shelves × (48 ≤ length row.now) }
+) -> io::Result<()>
+    requires { Usable book.now shelves }
 {
-    let letter = table::next_letter(row, table::LABEL);
-    let word = table::next_number(row, letter.next);
-    let shape = table::next_shape(row, word.next);
-    let records = files::build(file, at_hand, letter.value, shape);
-    changes::make_changes(file, row, shape.next);
-    show_records(book, shelves, file, records, word.value);
+    let mut words = Words { rest: row };
+    let letter = words.next_letter();
+    let word = words.next_number();
+    let shape = words.next_shape();
+    files::build(file, at_hand, letter, shape);
+    make_changes(file, &mut words);
+    show_file(rt, book, shelves, file.made(), word)
 }
 
 // A row: its label, and what it shows.
 fn show_line(
+    rt: &impl Print,
     book: &[u8],
     shelves: Book,
-    file: &mut [u8; SPACE],
-    at_hand: &[u8; AT_HAND],
+    file: &mut File<MOST>,
+    at_hand: AtHand<'_>,
     row: &[u8],
-)
+) -> io::Result<()>
     requires { Usable book.now shelves }
 {
-    if row.len() >= table::LABEL {
-        io::write_all(1, &row[..table::LABEL]);
-        show_case(book, shelves, file, at_hand, row);
-        io::write_all(1, b"\n");
-    }
+    let Some((label, words)) = row.split_at_checked(LABEL) else {
+        return Ok(());
+    };
+    rt.write_all(label)?;
+    show_case(rt, book, shelves, file, at_hand, words)?;
+    println!(rt;)
 }
 
-fn show_rows(book: &[u8], shelves: Book, at_hand: &[u8; AT_HAND], table: &[u8])
+fn show_rows(
+    rt: &impl Print,
+    book: &[u8],
+    shelves: Book,
+    file: &mut File<MOST>,
+    at_hand: AtHand<'_>,
+    table: &[u8],
+) -> io::Result<()>
     requires { Usable book.now shelves }
 {
-    let mut file = [0x40u8; SPACE];
-    let mut at: usize = 0;
-    while at < table.len() {
-        let end = table::row_end(table, at);
-        show_line(book, shelves, &mut file, at_hand, &table[at..end]);
-        at = end + 1;
+    for row in table.split(|byte| *byte == b'\n') {
+        show_line(rt, book, shelves, file, at_hand, row)?;
     }
+    Ok(())
 }
 
 // The table, over a book that is sound.
-fn show_table(book: &[u8], at_hand: &[u8; AT_HAND], table: &[u8]) {
-    let shelves = book::reading::read_book(book);
-    if shelves.sound {
-        show_rows(book, shelves, at_hand, table);
+fn show_table(
+    rt: &impl Print,
+    book: &[u8],
+    file: &mut File<MOST>,
+    at_hand: AtHand<'_>,
+    table: &[u8],
+) -> io::Result<()> {
+    match book::reading::read_book(book) {
+        Some(shelves) => show_rows(rt, book, shelves, file, at_hand, table),
+        None => Ok(()),
     }
 }
 
-fn main(rt: HostRuntime) {
-    let mut book = io::buffer();
-    let mut at_hand = [0x40u8; AT_HAND];
-    let mut table = [0u8; TABLE];
+// Its exit status doesn't tell whether standard output took the rows.
+fn main(rt: HostRuntime) -> Result<(), AllocError> {
+    let mut book = [0; BOOK];
+    let mut at_hand = [0x40; AT_HAND];
+    let mut table = [0; TABLE];
     let size = loading::read_file(&rt, "book.bin", &mut book);
     loading::read_file(&rt, "records.bin", &mut at_hand);
-    let end = io::read_full(0, &mut table);
-    show_table(&book[..size], &at_hand, &table[..end]);
+    let end = loading::read_input(&mut table);
+    let mut file = File::new(rt.alloc())?;
+    let _ = show_table(
+        &rt,
+        &book[..size],
+        &mut file,
+        AtHand::new(&at_hand),
+        &table[..end],
+    );
+    Ok(())
 }

@@ -3,18 +3,19 @@
 use mathlib.Core.Path.{◌≡◌, refl, sym, ◌∙◌}
 use mathlib.Core.Bool.{Bool, true, false}
 use mathlib.Core.List.{List}
-use Prim.Native.Nat.{ℕ, ◌+◌, ◌-◌, ◌*◌, ◌/◌, ◌%◌, ◌≤◌, ◌<◌, zero-le}
+use Prim.Native.Nat.{ℕ, ◌+◌, ◌-◌, ◌*◌, ◌/◌, ◌%◌, ◌≤◌, ◌<◌}
 use native.Mathlib.Nat.{div-add-mod'}
 use native.Mathlib.Omega.{arith}
 use lib.Dec.{leb, eqb}
 use borrow.Author.Tests.{le-leb, lt-leb, eq-eqb, ne_eqb, leb-true, eqb-true}
 use lib.ListN.{length}
-use Rattle.record.specs.Choice.{◌and◌, choose}
+use Rattle.record.specs.Choice.{◌and◌}
 use Rattle.record.proofs.Chain.{and_no, and_yes, and_left, and_right, choose_yes, choose_no}
 use Rattle.book.specs.declared.Kind.{Kind}
 use Rattle.book.specs.declared.Section.{Section}
-use Rattle.book.specs.declared.reading.Found.{Found}
-use Rattle.book.specs.Reading.{size_at, kind_at, framed, lost, sound_in, section_in, section_at, section_after, Readable}
+use Rattle.book.specs.Reading.{size_at, kind_at, framed, sound_in, section_at, Readable}
+use Rattle.book.specs.Book.{past}
+use Rattle.std.specs.Prelude.{Some, None}
 
 pub framed_short : (bs : List ℕ) (at : ℕ) (k : Kind) → length bs < at + 6 → false ≡ framed bs at k
 unfolding framed
@@ -65,9 +66,9 @@ frame_of bs at k r e t =
 
 -- a section, and none
 module _ (bs : List ℕ) (at : ℕ) (k : Kind) (r : Bool) (e : r ≡ framed bs at k) where
-  pub no_frame : (f : Found) → r ≡ false → f ≡ lost → f ≡ section_at bs at k
+  pub no_frame : r ≡ false → None ≡ section_at bs at k
   unfolding section_at ◌and◌
-  no_frame f t g = choose_no _ _ _ _ (rw (sym e ∙ t)) g
+  no_frame t = choose_no _ _ _ _ (rw (sym e ∙ t)) refl
 
   module _ (t : r ≡ true) (size : ℕ) (es : size ≡ size_at bs at) where
     abbrev pub s : Section
@@ -78,31 +79,15 @@ module _ (bs : List ℕ) (at : ℕ) (k : Kind) (r : Bool) (e : r ≡ framed bs a
         let f = frame_of bs at k r e t in
         rw es (omega (arith, f.whole, f.all, f.least))
 
-    pub no_section : (b : Bool) (f : Found) → b ≡ sound_in bs s → b ≡ false → f ≡ lost → f ≡ section_at bs at k
+    pub no_section : (b : Bool) → b ≡ sound_in bs s → b ≡ false → None ≡ section_at bs at k
     unfolding section_at ◌and◌
-    no_section b f q u g = choose_no _ _ _ _ (rw (sym e ∙ t) (rw es at (sym q ∙ u))) g
+    no_section b q u = choose_no _ _ _ _ (rw (sym e ∙ t) (rw es at (sym q ∙ u))) refl
 
-    pub a_section : (b : Bool) → b ≡ sound_in bs s → b ≡ true → record { ok = true; section = s; next = at + 4 + size } ≡ section_at bs at k
+    pub a_section : (b : Bool) → b ≡ sound_in bs s → b ≡ true → Some s ≡ section_at bs at k
     unfolding section_at ◌and◌
     a_section b q u = choose_yes _ _ _ _ (rw (sym e ∙ t) (rw es at (sym q ∙ u))) (rw es)
 
--- the place after a section lies in the book
-pub next_inside : (bs : List ℕ) (at : ℕ) (k : Kind) (f : Found) → f ≡ section_at bs at k → Readable bs at → Readable bs f.next
-unfolding section_at choose ◌and◌
-next_inside bs at k f e r = rw e (go (framed bs at k) refl (sound_in bs (section_in bs at k)))
-  where
-    go : (a : Bool) → framed bs at k ≡ a → (b : Bool)
-        → Readable bs (choose (a and b) (record { ok = true; section = section_in bs at k; next = at + 4 + size_at bs at }) lost).next
-    go true q true = record { inside = (frame_of bs at k true (sym q) refl).all; small = r.small }
-    go true q false = record { inside = zero-le; small = r.small }
-    go false q b = record { inside = zero-le; small = r.small }
-
--- a section after one that was read
-module _ (bs : List ℕ) (f : Found) (k : Kind) (g : Found) (r : Readable bs f.next) where
-  pub after_some : f.ok ≡ true → g ≡ section_at bs f.next k → (g ≡ section_after bs f k) × Readable bs g.next
-  unfolding section_after
-  after_some t e = (choose_yes _ _ _ _ t e, next_inside bs f.next k g e r)
-
-  pub after_none : f.ok ≡ false → g ≡ lost → (g ≡ section_after bs f k) × Readable bs g.next
-  unfolding section_after
-  after_none t e = (choose_no _ _ _ _ t e, rw e (record { inside = zero-le; small = r.small }))
+    -- the place after it lies in the book
+    pub past_inside : Readable bs at → Readable bs (past s)
+    unfolding past
+    past_inside h = record { inside = in_frame; small = h.small }

@@ -1,7 +1,7 @@
 -- A section that stands at a place is read as such, and what is read as a section is one.
 -- Assumes nothing.
 use mathlib.Core.Path.{◌≡◌, refl, sym, ap, ◌∙◌}
-use mathlib.Core.Bool.{Bool, true, false, true≢false}
+use mathlib.Core.Bool.{Bool, true, false}
 use mathlib.Core.List.{List, ◌++◌, append_assoc}
 use Prim.Native.Nat.{ℕ, ◌+◌, ◌-◌, ◌*◌, ◌/◌, ◌%◌, ◌≤◌, ◌<◌}
 use native.Mathlib.Nat.{mul-div_cancel, mul-mod_left}
@@ -14,15 +14,16 @@ use Rattle.numbers.proofs.Laws.{Bytes, little_length, little_number, number_litt
 use Rattle.record.specs.Choice.{◌and◌, choose}
 use Rattle.record.proofs.Chain.{and_left, and_right, and_yes, choose_yes}
 use Rattle.book.specs.declared.Kind.{Kind}
-use Rattle.book.specs.declared.reading.Found.{Found}
+use Rattle.book.specs.declared.Section.{Section}
+use Rattle.std.specs.Prelude.{Some, None}
 use Rattle.book.specs.Book.{Entries, joined, section_of, entries_at, Shelved, standing, past}
-use Rattle.book.specs.Reading.{Readable, Kinded, size_at, kind_at, framed, section_in, sound_in, section_at, lost}
+use Rattle.book.specs.Reading.{Readable, Kinded, size_at, kind_at, framed, section_in, sound_in, section_at}
 use Rattle.book.proofs.Entries.{joined_length, cut_joined, each_flags, cut_each, joined_cut}
 use Rattle.book.proofs.Frames.{Frame, frame_of}
 
 -- a section of k with entries es stands at a place, is found there, can be looked up in, and rest follows it
 pub record Stood (bs : List ℕ) (at : ℕ) (k : Kind) (es : List (List ℕ)) (rest : List ℕ) : Type 0 where
-  pub found : section_at bs at k ≡ record { ok = true; section = standing at k es; next = past (standing at k es) }
+  pub found : section_at bs at k ≡ Some (standing at k es)
   pub shelved : Shelved bs (standing at k es)
   pub entries : entries_at bs (standing at k es) ≡ es
   pub left : drop (past (standing at k es)) bs ≡ rest
@@ -85,14 +86,9 @@ module _ (bs : List ℕ) (at : ℕ) (k : Kind) (es : List (List ℕ)) (rest : Li
   unfolding sound_in
   sound_is = rw entries_are (sym (and_yes _ _ _ (each_flags k es s.each) (sym s.ascending)))
 
-  stands : section_at bs at k ≡ record { ok = true; section = standing at k es; next = past (standing at k es) }
-  unfolding section_at standing past
-  stands =
-      sym
-      (choose_yes _ _ _ _ (sym (and_yes _ _ _ framed_is (sym sound_is)))
-      (let c : length es ≡ (size_at bs at - 2) / k.entry = sym count_is in
-      let m : at + 6 + length es * k.entry ≡ at + 4 + size_at bs at = omega (arith, size_is, entries_long) in
-      λ i. record { ok = true; section = record { start = at + 6; count = c i; code = k.code; entry = k.entry }; next = m i }))
+  stands : section_at bs at k ≡ Some (standing at k es)
+  unfolding section_at standing
+  stands = sym (choose_yes _ _ _ _ (sym (and_yes _ _ _ framed_is (sym sound_is))) (rw count_is))
 
   stood_entries : entries_at bs (standing at k es) ≡ es
   unfolding standing entries_at
@@ -123,28 +119,34 @@ parted : (bs : List ℕ) (at n : ℕ) → drop at bs ≡ take n (drop at bs) ++ 
 parted bs at n = sym (take-append-drop n (drop at bs)) ∙ ap (λ (l : List ℕ). take n (drop at bs) ++ l) (drop-drop n at bs)
 
 -- what was read as a section is one
-pub record Piece (bs : List ℕ) (at : ℕ) (k : Kind) (f : Found) : Type 0 where
+pub record Piece (bs : List ℕ) (at : ℕ) (k : Kind) (s : Section) : Type 0 where
   pub entries : List (List ℕ)
-  pub made : drop at bs ≡ section_of k entries ++ drop f.next bs
+  pub made : drop at bs ≡ section_of k entries ++ drop (past s) bs
   pub sound : Entries k entries
 
-both : (bs : List ℕ) (at : ℕ) (k : Kind) → (section_at bs at k).ok ≡ true
-    → (framed bs at k ≡ true) × (sound_in bs (section_in bs at k) ≡ true) × ((section_at bs at k).next ≡ at + 4 + size_at bs at)
+both : (bs : List ℕ) (at : ℕ) (k : Kind) (s : Section) → section_at bs at k ≡ Some s
+    → (framed bs at k ≡ true) × (sound_in bs (section_in bs at k) ≡ true) × (section_in bs at k ≡ s)
 unfolding section_at choose ◌and◌
-both bs at k e = go (framed bs at k) (sound_in bs (section_in bs at k)) e
+both bs at k s e = go (framed bs at k) (sound_in bs (section_in bs at k)) e
   where
-    go : (a b : Bool) → (choose (a and b) (record { ok = true; section = section_in bs at k; next = at + 4 + size_at bs at }) lost).ok ≡ true
-        → (a ≡ true) × (b ≡ true) × ((choose (a and b) (record { ok = true; section = section_in bs at k; next = at + 4 + size_at bs at }) lost).next ≡ at + 4 + size_at bs at)
-    go true true e = (refl, refl, refl)
-    go true false e = absurd (true≢false (sym e))
-    go false b e = absurd (true≢false (sym e))
+    go : (a b : Bool) → choose (a and b) (Some (section_in bs at k)) None ≡ Some s → (a ≡ true) × (b ≡ true) × (section_in bs at k ≡ s)
+    go true true e = (refl, refl, cc)
+    go true false e = absurd (cc)
+    go false b e = absurd (cc)
 
-module _ (bs : List ℕ) (at : ℕ) (k : Kind) (b : Bytes bs) (t : (section_at bs at k).ok ≡ true) where
+module _ (bs : List ℕ) (at : ℕ) (k : Kind) (s : Section) (b : Bytes bs) (t : section_at bs at k ≡ Some s) where
   frame : Frame bs at k
-  frame = frame_of bs at k true (sym (both bs at k t).0) refl
+  frame = frame_of bs at k true (sym (both bs at k s t).0) refl
 
   listed : List (List ℕ)
   listed = entries_at bs (section_in bs at k)
+
+  next : ℕ
+  next = at + 6 + (size_at bs at - 2)
+
+  next_is : past s ≡ next
+  unfolding past next
+  next_is = rw (← (both bs at k s t).2) (rw frame.whole)
 
   found_joined : joined listed ≡ take (size_at bs at - 2) (drop (at + 6) bs)
   unfolding listed entries_at
@@ -166,25 +168,24 @@ module _ (bs : List ℕ) (at : ℕ) (k : Kind) (b : Bytes bs) (t : (section_at b
       let n : length (take 2 (drop (at + 4) bs)) ≡ 2 = simp (length-take, length-drop) (omega (arith, frame.head)) in
       rw (← frame.kind) (rw n at (number_little (take 2 (drop (at + 4) bs)) (bytes_take 2 (drop (at + 4) bs) (bytes_drop (at + 4) bs b))))
 
-  found_made : drop at bs ≡ section_of k listed ++ drop (section_at bs at k).next bs
-  unfolding section_of
+  found_made : drop at bs ≡ section_of k listed ++ drop next bs
+  unfolding section_of next
   found_made =
       let m : at + 4 + 2 ≡ at + 6 = omega arith in
-      let n : at + 6 + (size_at bs at - 2) ≡ (section_at bs at k).next = omega (arith, frame.least, (both bs at k t).2) in
-      let c : drop (at + 6) bs ≡ joined listed ++ drop (section_at bs at k).next bs = rw n at (parted bs (at + 6) (size_at bs at - 2)) ∙ ap (λ (l : List ℕ). l ++ drop (section_at bs at k).next bs) (sym found_joined) in
-      let d : drop (at + 4) bs ≡ little 2 k.number ++ (joined listed ++ drop (section_at bs at k).next bs) =
+      let c : drop (at + 6) bs ≡ joined listed ++ drop next bs = parted bs (at + 6) (size_at bs at - 2) ∙ ap (λ (l : List ℕ). l ++ drop next bs) (sym found_joined) in
+      let d : drop (at + 4) bs ≡ little 2 k.number ++ (joined listed ++ drop next bs) =
       rw (m, ← kind_bytes, c) at (parted bs (at + 4) 2) in
-      let e : drop at bs ≡ little 4 (2 + length (joined listed)) ++ (little 2 k.number ++ (joined listed ++ drop (section_at bs at k).next bs)) =
+      let e : drop at bs ≡ little 4 (2 + length (joined listed)) ++ (little 2 k.number ++ (joined listed ++ drop next bs)) =
       rw (← size_bytes, d) at (parted bs at 4) in
       e ∙ simp append_assoc
 
-  pub piece : Piece bs at k (section_at bs at k)
+  pub piece : Piece bs at k s
   unfolding sound_in listed entries_at
   piece =
-      let f = (both bs at k t).1 in
+      let f = (both bs at k s t).1 in
       record {
         entries = listed;
-        made = found_made;
+        made = rw next_is found_made;
         sound = record {
           each = cut_each k ((size_at bs at - 2) / k.entry) (drop (at + 6) bs) (simp length-drop (omega (arith, frame.whole, frame.all, frame.least))) (and_left _ _ f);
           ascending = and_right _ _ f;

@@ -1,5 +1,5 @@
 -- The lent code book (01 Code book): what a book is, said by the entries that it is made of.
-use Rattle.std.specs.Prelude.{ℕ, zero, suc, ◌+◌, ◌*◌, ◌≤◌, ◌≡◌, Bool, true, false, not, List, [], ◌∷◌, ◌++◌, leb, eqb, length, take, drop, get_or}
+use Rattle.std.specs.Prelude.{ℕ, zero, suc, ◌+◌, ◌*◌, ◌≤◌, ◌≡◌, Bool, true, false, List, [], ◌∷◌, ◌++◌, Option, Some, None, option_map, leb, eqb, length, take, drop, get_or}
 use Rattle.numbers.specs.Numbers.{little}
 use Rattle.record.specs.declared.Line.{Line}
 use Rattle.record.specs.Choice.{◌and◌, choose}
@@ -10,7 +10,6 @@ use Rattle.record.specs.Ordering.{order, is_before}
 use Rattle.book.specs.declared.Kind.{Kind}
 use Rattle.book.specs.declared.Section.{Section}
 use Rattle.book.specs.declared.Book.{Book}
-use Rattle.book.specs.declared.search.Listing.{Listing}
 
 -- the kinds: number, bytes of a code, bytes of an entry (a code, and in kinds 2 and 3 a flag)
 abbrev pub system_kind : Kind
@@ -145,7 +144,6 @@ currencies_at c = standing (past (countries_at c)) currency_kind c.currencies
 -- a sound book
 unfoldable pub placed : Contents → Book
 placed c = record {
-  sound = true;
   systems = systems_at c;
   locations = locations_at c;
   betcs = betcs_at c;
@@ -155,27 +153,10 @@ placed c = record {
   currencies = currencies_at c;
 }
 
--- no section
-abbrev pub nowhere : Section
-nowhere = record { start = 0; count = 0; code = 0; entry = 0 }
-
--- an unsound book
-unfoldable pub shut : Book
-shut = record {
-  sound = false;
-  systems = nowhere;
-  locations = nowhere;
-  betcs = nowhere;
-  types = nowhere;
-  states = nowhere;
-  countries = nowhere;
-  currencies = nowhere;
-}
-
--- what reading the bytes comes to: sound, with the places of the sections, exactly when the bytes list something
-pub data Opened (bytes : List ℕ) : Book → Type 0 where
-  sound : (c : Contents) → Lists bytes c → Opened bytes (placed c)
-  unsound : ((c : Contents) → Lists bytes c → ⊥) → Opened bytes shut
+-- what reading the bytes comes to: the places of the sections, exactly when the bytes list something
+pub data Opened (bytes : List ℕ) : Option Book → Type 0 where
+  sound : (c : Contents) → Lists bytes c → Opened bytes (Some (placed c))
+  unsound : ((c : Contents) → Lists bytes c → ⊥) → Opened bytes None
 
 -- the bytes cut into n entries of w bytes
 unfoldable pub cut : ℕ → ℕ → List ℕ → List (List ℕ)
@@ -193,26 +174,17 @@ pub record Shelved (bytes : List ℕ) (s : Section) : Type 0 where
   pub ascending : ascend s.code (entries_at bytes s) ≡ true
 
 -- the entry whose code is x: no other can be meant, since codes ascend
-unfoldable pub entry_for : ℕ → List (List ℕ) → List ℕ → List ℕ
-entry_for width [] x = []
-entry_for width (e ∷ es) x = choose (alike (entry_code width e) x) e (entry_for width es x)
+unfoldable pub entry_for : ℕ → List (List ℕ) → List ℕ → Option (List ℕ)
+entry_for width [] x = None
+entry_for width (e ∷ es) x = choose (alike (entry_code width e) x) (Some e) (entry_for width es x)
 
--- no entry
-unfoldable pub is_none : List ℕ → Bool
-is_none [] = true
-is_none (x ∷ xs) = false
-
--- the flag of an entry of kind 2 or 3, after a code of eight bytes; an empty entry has none
+-- the flag of an entry of kind 2 or 3, after a code of eight bytes; an entry that is no longer has none
 unfoldable pub flag_of : List ℕ → Bool
 flag_of e = eqb (get_or e 8 0) 1
 
--- what an entry says: listed unless there is none, and flagged (a CARS Reporter in kind 2, a credit in kind 3)
-unfoldable pub said : List ℕ → Listing
-said e = record { listed = not (is_none e); flagged = flag_of e }
-
--- what these entries say of a field's code; a blank field has no code, and nothing is said of it
-unfoldable pub listing : ℕ → List (List ℕ) → List ℕ → Listing
-listing width es v = choose (blank v) (said []) (said (entry_for width es v))
+-- of a field's code that these entries list, its entry's flag (a CARS Reporter in kind 2, a credit in kind 3); a blank field has no code
+unfoldable pub listing : ℕ → List (List ℕ) → List ℕ → Option Bool
+listing width es v = choose (blank v) None (option_map flag_of (entry_for width es v))
 
 -- what stands at the places of a book
 unfoldable pub listed_at : List ℕ → Book → Contents

@@ -1,12 +1,10 @@
 -- How the code reads a book, as functions of the bytes: the private functions are promised by these, and proofs/ ties them to Book.antt.
-use Rattle.std.specs.Prelude.{ℕ, ◌+◌, ◌-◌, ◌*◌, ◌/◌, ◌%◌, ◌≤◌, Bool, true, false, List, [], ◌∷◌, leb, eqb, length, take, drop}
+use Rattle.std.specs.Prelude.{ℕ, ◌+◌, ◌-◌, ◌*◌, ◌/◌, ◌%◌, ◌≤◌, Bool, true, List, [], ◌∷◌, Option, Some, None, leb, eqb, length, take, drop}
 use Rattle.numbers.specs.Numbers.{number_in}
 use Rattle.record.specs.Choice.{◌and◌, choose}
 use Rattle.book.specs.declared.Kind.{Kind}
 use Rattle.book.specs.declared.Section.{Section}
-use Rattle.book.specs.declared.Book.{Book}
-use Rattle.book.specs.declared.reading.Found.{Found}
-use Rattle.book.specs.Book.{flagged, ascend, entries_at, nowhere}
+use Rattle.book.specs.Book.{flagged, ascend, entries_at}
 
 -- a place in a book of a size that is read
 pub record Readable (bytes : List ℕ) (at : ℕ) : Type 0 where
@@ -30,27 +28,6 @@ unfoldable pub flags : ℕ → List (List ℕ) → Bool
 flags width [] = true
 flags width (e ∷ es) = flagged width e and flags width es
 
--- what reading a section comes to where there is none
-abbrev pub lost : Found
-lost = record { ok = false; section = nowhere; next = 0 }
-
--- nothing read yet
-abbrev pub begun : Found
-begun = record { ok = true; section = nowhere; next = 0 }
-
--- the book of seven sections that were read
-abbrev pub bound : Found → Found → Found → Found → Found → Found → Found → Book
-bound a b c d e f g = record {
-  sound = true;
-  systems = a.section;
-  locations = b.section;
-  betcs = c.section;
-  types = d.section;
-  states = e.section;
-  countries = f.section;
-  currencies = g.section;
-}
-
 -- the length and the kind that stand at a place
 unfoldable pub size_at : List ℕ → ℕ → ℕ
 size_at bytes at = number_in (take 4 (drop at bytes))
@@ -72,16 +49,6 @@ section_in bytes at k = record { start = at + 6; count = (size_at bytes at - 2) 
 unfoldable pub sound_in : List ℕ → Section → Bool
 sound_in bytes s = flags s.code (entries_at bytes s) and ascend s.code (entries_at bytes s)
 
--- the section that stands at a place, with the place after it
-unfoldable pub section_at : List ℕ → ℕ → Kind → Found
-section_at bytes at k =
-    choose (framed bytes at k and sound_in bytes (section_in bytes at k))
-    (record { ok = true; section = section_in bytes at k; next = at + 4 + size_at bytes at }) lost
-
--- the section after one that was read
-unfoldable pub section_after : List ℕ → Found → Kind → Found
-section_after bytes f k = choose f.ok (section_at bytes f.next k) lost
-
--- the section was read, and nothing follows it
-unfoldable pub ended : List ℕ → Found → Bool
-ended bytes f = f.ok and eqb f.next (length bytes)
+-- the section of the kind that stands at a place
+unfoldable pub section_at : List ℕ → ℕ → Kind → Option Section
+section_at bytes at k = choose (framed bytes at k and sound_in bytes (section_in bytes at k)) (Some (section_in bytes at k)) None

@@ -29,10 +29,9 @@ pub struct Section {
     pub entry: usize,
 }
 
-// What a book is found to be: sound or not, and where its seven sections stand.
+// Where the seven sections of a sound book stand.
 #[derive(Clone, Copy)]
 pub struct Book {
-    pub sound: bool,
     pub systems: Section,
     pub locations: Section,
     pub betcs: Section,

@@ -1,11 +1,13 @@
 // Whether a book is sound, and where its sections stand: one walk from the front, linear in the book.
-ghost use Rattle.std.specs.Prelude.{◌≡◌, ◌≤◌, ◌<◌, ◌+◌, length, take, drop};
-ghost use Rattle.book.specs.Book.{entry_code, ascend, entries_at, Opened, nowhere, shut};
+ghost use Rattle.std.specs.Prelude.{◌≡◌, ◌≤◌, ◌<◌, ◌+◌, length, take, drop, IfSome};
+ghost use Rattle.book.specs.declared.Section.{Section};
+ghost use Rattle.book.specs.Book.{entry_code, ascend, entries_at, past, Opened};
 ghost use Rattle.record.specs.Ordering.{order, is_before};
-ghost use Rattle.book.specs.Reading.{size_at, kind_at, flags, lost, begun, bound, ended, framed, sound_in, Readable, Kinded, Framed, section_at, section_after};
+ghost use Rattle.book.specs.Reading.{size_at, kind_at, flags, framed, sound_in, Readable, Kinded, Framed, section_at};
 
 use crate::{Book, Kind, LENT, Section};
-use record::{Field, Justification, Order};
+use record::{Field, Justification};
+use std::cmp::Ordering;
 
 // The kinds of document 01: number, bytes of a code, bytes of an entry.
 const SYSTEMS: Kind = Kind {
@@ -49,14 +51,6 @@ const CURRENCIES: Kind = Kind {
     code: 3,
     entry: 3,
 };
-
-// What reading a section comes to: whether it is sound, where it stands, and where the next begins.
-#[derive(Clone, Copy)]
-struct Found {
-    ok: bool,
-    section: Section,
-    next: usize,
-}
 
 // The length that a section at `at` begins with: four bytes.
 fn size_at(book: &[u8], at: usize) -> usize
@@ -103,20 +97,13 @@ fn has_flags(book: &[u8], section: Section) -> bool
     requires { Framed book.now section }
     ensures { result ≡ flags section.code (entries_at book.now section) }
 {
-    let count = section.count;
-    let entry = section.entry;
-    let code = section.code;
-    if code == entry {
+    if section.code == section.entry {
         return true;
     }
-    let mut at = section.start;
-    let mut i = 0;
-    while i < count {
-        if 1 < book[at + code] {
+    for i in 0..section.count {
+        if 1 < book[section.start + i * section.entry + section.code] {
             return false;
         }
-        at += entry;
-        i += 1;
     }
     true
 }
@@ -128,24 +115,19 @@ fn is_pair(book: &[u8], at: usize, code: usize, entry: usize) -> bool
     ensures { result ≡ is_before (order (entry_code code (take entry (drop at book.now))) (entry_code code (take entry (drop (at + entry) book.now)))) }
 {
     let next = at + entry;
-    let end = next + entry;
+    let own = &book[at..next];
+    let other = &book[next..next + entry];
     let field = Field {
         start: 1,
         width: code,
         justification: Justification::Text,
     };
-    let here = record::field_part(&book[at..next], LENT, field);
-    let there = record::field_part(&book[next..end], LENT, field);
-    if here.len() == code {
-        if there.len() == code {
+    if let Some(here) = record::field_part(own, LENT, field) {
+        if let Some(there) = record::field_part(other, LENT, field) {
             return words::is_after(there, here);
         }
     }
-    match record::fields_order(&book[at..next], LENT, &book[next..end], LENT, field) {
-        Order::Before => true,
-        Order::Same => false,
-        Order::After => false,
-    }
+    record::fields_order(own, LENT, other, LENT, field) == Ordering::Less
 }
 
 // The codes of the section strictly ascend.
@@ -153,17 +135,15 @@ fn does_ascend(book: &[u8], section: Section) -> bool
     requires { Framed book.now section }
     ensures { result ≡ ascend section.code (entries_at book.now section) }
 {
-    let count = section.count;
-    let entry = section.entry;
-    let code = section.code;
-    let mut at = section.start;
-    let mut i = 1;
-    while i < count {
-        if is_pair(book, at, code, entry) {} else {
+    for i in 1..section.count {
+        if !is_pair(
+            book,
+            section.start + (i - 1) * section.entry,
+            section.code,
+            section.entry,
+        ) {
             return false;
         }
-        at += entry;
-        i += 1;
     }
     true
 }
@@ -173,165 +153,61 @@ fn is_sound(book: &[u8], section: Section) -> bool
     requires { Framed book.now section }
     ensures { result ≡ sound_in book.now section }
 {
-    if has_flags(book, section) {
-        return does_ascend(book, section);
-    }
-    false
+    has_flags(book, section) && does_ascend(book, section)
 }
 
-// No section.
-fn nothing() -> Section
-    ensures { result ≡ nowhere }
-{
-    Section {
-        start: 0,
-        count: 0,
-        code: 0,
-        entry: 0,
-    }
-}
-
-// What reading a section comes to where there is none.
-fn lose() -> Found
-    ensures { result ≡ lost }
-{
-    let section = nothing();
-    Found {
-        ok: false,
-        section,
-        next: 0,
-    }
-}
-
-// The section of the kind that stands at `at`.
-fn section_at(book: &[u8], at: usize, kind: Kind) -> Found
+// The section of the kind that stands at `at`; what follows it is in the book too.
+fn section_at(book: &[u8], at: usize, kind: Kind) -> Option<Section>
     requires { Readable book.now at × Kinded kind }
-    ensures { result ≡ section_at book.now at kind }
+    ensures { (result ≡ section_at book.now at kind) × IfSome result (λ (s : Section). Readable book.now (past s)) }
 {
-    if is_framed(book, at, kind) {
-        let size = size_at(book, at);
-        let start = at + 6;
-        let count = (size - 2) / kind.entry;
-        let section = Section {
-            start,
-            count,
-            code: kind.code,
-            entry: kind.entry,
-        };
-        if is_sound(book, section) {
-            let next = at + 4 + size;
-            return Found {
-                ok: true,
-                section,
-                next,
-            };
-        }
-        return lose();
+    if !is_framed(book, at, kind) {
+        return None;
     }
-    lose()
+    let section = Section {
+        start: at + 6,
+        count: (size_at(book, at) - 2) / kind.entry,
+        code: kind.code,
+        entry: kind.entry,
+    };
+    if !is_sound(book, section) {
+        return None;
+    }
+    Some(section)
 }
 
-// The section of the kind that follows one that was read.
-fn section_after(book: &[u8], found: Found, kind: Kind) -> Found
-    requires { Readable book.now found.next × Kinded kind }
-    ensures { (result ≡ section_after book.now found kind) × Readable book.now result.next }
+// The place after a section.
+fn end_of(section: Section) -> usize
+    requires { past section ≤ 16777216 }
+    ensures { result ≡ past section }
 {
-    let next = found.next;
-    if found.ok {
-        return section_at(book, next, kind);
-    }
-    lose()
+    section.start + section.count * section.entry
 }
 
-// Nothing read yet.
-fn begin() -> Found
-    ensures { result ≡ begun }
-{
-    let section = nothing();
-    Found {
-        ok: true,
-        section,
-        next: 0,
-    }
-}
-
-// The book of seven sections.
-fn bind(
-    systems: Found,
-    locations: Found,
-    betcs: Found,
-    types: Found,
-    states: Found,
-    countries: Found,
-    currencies: Found,
-) -> Book
-    ensures { result ≡ bound systems locations betcs types states countries currencies }
-{
-    let of_systems = systems.section;
-    let of_locations = locations.section;
-    let of_betcs = betcs.section;
-    let of_types = types.section;
-    let of_states = states.section;
-    let of_countries = countries.section;
-    let of_currencies = currencies.section;
-    Book {
-        sound: true,
-        systems: of_systems,
-        locations: of_locations,
-        betcs: of_betcs,
-        types: of_types,
-        states: of_states,
-        countries: of_countries,
-        currencies: of_currencies,
-    }
-}
-
-// The section was read, and nothing follows it.
-fn is_end(book: &[u8], found: Found) -> bool
-    ensures { result ≡ ended book.now found }
-{
-    if found.ok {
-        return found.next == book.len();
-    }
-    false
-}
-
-// No book.
-fn close() -> Book
-    ensures { result ≡ shut }
-{
-    let none = nothing();
-    Book {
-        sound: false,
-        systems: none,
-        locations: none,
-        betcs: none,
-        types: none,
-        states: none,
-        countries: none,
-        currencies: none,
-    }
-}
-
-// Whether the bytes are a sound book, and where its sections stand.
-pub fn read_book(book: &[u8]) -> Book
+// Where the sections of a sound book stand; none where the bytes are no sound book.
+pub fn read_book(book: &[u8]) -> Option<Book>
     ensures { Opened book.now result }
 {
     if 16777216 < book.len() {
-        return close();
+        return None;
     }
-    let begun = begin();
-    let systems = section_after(book, begun, SYSTEMS);
-    let locations = section_after(book, systems, LOCATIONS);
-    let betcs = section_after(book, locations, BETCS);
-    let types = section_after(book, betcs, TYPES);
-    let states = section_after(book, types, STATES);
-    let countries = section_after(book, states, COUNTRIES);
-    let currencies = section_after(book, countries, CURRENCIES);
-    if is_end(book, currencies) {
-        return bind(
-            systems, locations, betcs, types, states, countries, currencies,
-        );
+    let systems = section_at(book, 0, SYSTEMS)?;
+    let locations = section_at(book, end_of(systems), LOCATIONS)?;
+    let betcs = section_at(book, end_of(locations), BETCS)?;
+    let types = section_at(book, end_of(betcs), TYPES)?;
+    let states = section_at(book, end_of(types), STATES)?;
+    let countries = section_at(book, end_of(states), COUNTRIES)?;
+    let currencies = section_at(book, end_of(countries), CURRENCIES)?;
+    if end_of(currencies) != book.len() {
+        return None;
     }
-    close()
+    Some(Book {
+        systems,
+        locations,
+        betcs,
+        types,
+        states,
+        countries,
+        currencies,
+    })
 }

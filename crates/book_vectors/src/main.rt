@@ -2,94 +2,90 @@
 // Before each book stand its length, four little-endian bytes, and the 40 bytes.
 #![tactic(auto)]
 
-ghost use Rattle.std.specs.Prelude.{◌≤◌, ◌<◌};
+ghost use Rattle.std.specs.Prelude.{◌≤◌};
 ghost use Rattle.book.specs.Book.{Shelved, Usable};
 
-use book::{Book, Section};
+use book::{Book, Section, reading, search};
+use loading::Parts;
 use record::{Field, Justification, Line};
+use std::io;
 
-fn show(n: usize) {
-    io::print_decimal(1, n as u64);
-    io::write_all(1, b" ");
-}
+// The most books that are shown.
+const MOST: usize = 10000;
+
+// The most bytes of a book.
+const SPACE: usize = 65536;
+
+// How a query is read: it is no record of a file.
+const LINE: Line = Line {
+    number: 0,
+    ascii: false,
+};
 
 // The entries of a section, the length of the one whose code the query begins with, and its flag.
-fn show_section(book: &[u8], section: Section, query: &[u8; 40], width: usize)
+fn show_section(
+    rt: &impl Print,
+    book: &[u8],
+    section: Section,
+    query: &[u8; 40],
+    width: usize,
+) -> io::Result<()>
     requires { Shelved book.now section × (width ≤ 40) }
 {
-    let entry = book::search::find(
-        book,
-        section,
-        query,
-        Line {
-            number: 0,
-            ascii: false,
-        },
-        Field {
-            start: 1,
-            width,
-            justification: Justification::Text,
-        },
-    );
-    show(section.count);
-    show(entry.len());
-    if book::search::flag(entry) {
-        show(1);
-    } else {
-        show(0);
-    }
+    let field = Field {
+        start: 1,
+        width,
+        justification: Justification::Text,
+    };
+    let entry = search::find(book, section, query, LINE, field).unwrap_or(&[]);
+    let flag = u8::from(search::flag(entry));
+    print!(rt; "{} {} {flag} ", section.count, entry.len())
 }
 
-fn show_sections(book: &[u8], found: Book, query: &[u8; 40])
+fn show_sections(rt: &impl Print, book: &[u8], found: Book, query: &[u8; 40]) -> io::Result<()>
     requires { Usable book.now found }
 {
-    show_section(book, found.systems, query, 40);
-    show_section(book, found.locations, query, 8);
-    show_section(book, found.betcs, query, 8);
-    show_section(book, found.types, query, 25);
-    show_section(book, found.states, query, 2);
-    show_section(book, found.countries, query, 2);
-    show_section(book, found.currencies, query, 3);
+    show_section(rt, book, found.systems, query, 40)?;
+    show_section(rt, book, found.locations, query, 8)?;
+    show_section(rt, book, found.betcs, query, 8)?;
+    show_section(rt, book, found.types, query, 25)?;
+    show_section(rt, book, found.states, query, 2)?;
+    show_section(rt, book, found.countries, query, 2)?;
+    show_section(rt, book, found.currencies, query, 3)
 }
 
-fn show_book(book: &[u8], query: &[u8; 40]) {
-    let found = book::reading::read_book(book);
-    if found.sound {
-        io::write_all(1, b"sound ");
-        show_sections(book, found, query);
-    } else {
-        io::write_all(1, b"unsound ");
-    }
-    io::write_all(1, b"\n");
-}
-
-// Reads a book of n bytes, and shows it.
-fn show_read(space: &mut [u8], n: usize, query: &[u8; 40]) {
-    if n <= space.len() {
-        io::read_full(0, &mut space[..n]);
-        if n <= space.len() {
-            show_book(&space[..n], query);
+fn show_book(rt: &impl Print, book: &[u8], query: &[u8; 40]) -> io::Result<()> {
+    match reading::read_book(book) {
+        Some(found) => {
+            print!(rt; "sound ")?;
+            show_sections(rt, book, found, query)?;
         }
+        None => print!(rt; "unsound ")?,
     }
+    println!(rt;)
 }
 
-// Reads and shows one book, and answers whether there was one.
-fn show_next() -> bool {
-    let mut head = [0u8; 4];
-    if io::read_full(0, &mut head) < 4 {
-        return false;
+// Reads the book behind its length, and shows it where the space holds it.
+fn show_next(rt: &impl Print, head: [u8; 4]) -> io::Result<()> {
+    let size = numbers::read(&head) as usize;
+    let mut query = [0; 40];
+    loading::read_input(&mut query);
+    let mut space = [0; SPACE];
+    if let Some(book) = space.get_mut(..size) {
+        loading::read_input(book);
+        show_book(rt, book, &query)?;
     }
-    let n = numbers::read(&head) as usize;
-    let mut query = [0u8; 40];
-    io::read_full(0, &mut query);
-    let mut space = io::large_buffer();
-    show_read(&mut space, n, &query);
-    true
+    Ok(())
 }
 
-fn main() {
-    let mut turns: u64 = 10000;
-    while turns > 0 && show_next() {
-        turns -= 1;
+fn show_books(rt: &impl Print) -> io::Result<()> {
+    for head in (Parts::<4> { most: MOST }) {
+        show_next(rt, head)?;
     }
+    Ok(())
+}
+
+// Its exit status doesn't tell whether standard output took the lines.
+fn main(rt: HostRuntime) {
+    let _ = show_books(&rt);
 }

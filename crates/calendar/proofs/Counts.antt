@@ -9,6 +9,7 @@ use lib.Dec.{eqb, leb}
 use borrow.Author.Tests.{eqb-true, leb-true, le-leb, lt-leb}
 use lib.ListN.{length, take, get_or, length-take, length-drop}
 use lib.Seq.{slice}
+use Rattle.std.specs.Prelude.{None, Some}
 use Rattle.page.specs.CodePage.{shown}
 use Rattle.record.specs.declared.Field.{Field}
 use Rattle.record.specs.Choice.{◌and◌, choose}
@@ -117,12 +118,12 @@ module _ (ascii : Bool) (rec : List ℕ) (f : Field) (h : Has rec f) (w : f.widt
   blank_digits true d e = absurd (true≢false (sym e ∙ filled_digits v (omega (arith, held_length ascii rec f h, w)) d))
   blank_digits false d e = refl
 
-  pub blank_month : (r : Bool) → r ≡ blank v → r ≡ true → record { year = 0; month = 0 } ≡ month_in v
+  pub blank_month : (r : Bool) → r ≡ blank v → r ≡ true → None ≡ month_in v
   unfolding month_in month_year choose ◌and◌
   blank_month r e t = rw (blank_digits (digits v) refl (sym e ∙ t))
 
   module _ (r : Bool) (e : r ≡ month_year v) where
-    pub other_month : r ≡ false → record { year = 0; month = 0 } ≡ month_in v
+    pub other_month : r ≡ false → None ≡ month_in v
     unfolding month_in choose
     other_month t = rw (sym e ∙ t)
 
@@ -138,14 +139,15 @@ module _ (ascii : Bool) (rec : List ℕ) (f : Field) (h : Has rec f) (w : f.widt
           let k = subst (λ (i : ℕ). numeral (slice 2 4 v) < 10 ^ i) n (numeral_below (slice 2 4 v) d) in
           omega (arith, q, k)
 
-      pub month_read : (y m : ℕ) → m ≡ numeral (slice 0 2 v) → y ≡ numeral (slice 2 4 v) → record { year = 2000 + y; month = m } ≡ month_in v
+      pub month_read : (y m : ℕ) → m ≡ numeral (slice 0 2 v) → y ≡ numeral (slice 2 4 v) → Some (record { year = 2000 + y; month = m }) ≡ month_in v
       unfolding month_in choose
       month_read y m p q = rw (sym e ∙ t, p, q)
 
   -- a month that is one has its year and its number in their ranges
-  pub month_bounds : month_year v ≡ true → (m : Month) → m ≡ month_in v → (1 ≤ m.year) × (m.year ≤ 9999) × (1 ≤ m.month) × (m.month ≤ 12)
+  pub month_bounds : month_year v ≡ true → (m : Month) → Some m ≡ month_in v → (1 ≤ m.year) × (m.year ≤ 9999) × (1 ≤ m.month) × (m.month ≤ 12)
   unfolding month_in month_year choose
   month_bounds t m e =
+      let q : m ≡ record { year = 2000 + numeral (slice 2 4 v); month = numeral (slice 0 2 v) } = cc (rw t at e) in
       let y = year_few true (sym t) refl (numeral (slice 2 4 v)) refl in
       let k = and_right (digits v) _ t in
-      rw (e, t) (omega arith, omega (arith, y), leb-true 1 (numeral (slice 0 2 v)) (and_left _ _ k), leb-true (numeral (slice 0 2 v)) 12 (and_right (leb 1 (numeral (slice 0 2 v))) _ k))
+      rw q (omega arith, omega (arith, y), leb-true 1 (numeral (slice 0 2 v)) (and_left _ _ k), leb-true (numeral (slice 0 2 v)) 12 (and_right (leb 1 (numeral (slice 0 2 v))) _ k))

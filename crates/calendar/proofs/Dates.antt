@@ -1,11 +1,10 @@
 -- Dates in fields: the parts of a field that has the shape are digits, and the numbers that they write decide.
 -- Assumes nothing.
-use mathlib.Core.Path.{◌≡◌, refl, sym, ap, ◌∙◌}
-use mathlib.Core.Bool.{Bool, true, false}
+use mathlib.Core.Path.{◌≡◌, sym, ap, ◌∙◌}
+use mathlib.Core.Bool.{Bool, true}
 use mathlib.Core.List.{List}
-use Prim.Native.Nat.{ℕ, ◌≤◌, ◌<◌}
-use lib.Dec.{leb, eqb}
-use borrow.Author.Tests.{le-leb, lt-leb}
+use Prim.Native.Nat.{ℕ}
+use lib.Dec.{eqb}
 use lib.ListN.{get_or}
 use lib.Seq.{slice, take_all}
 use native.Mathlib.Omega.{arith}
@@ -16,8 +15,8 @@ use Rattle.record.specs.Tests.{digits}
 use Rattle.record.specs.Numeral.{numeral}
 use Rattle.record.specs.Value.{Has, written}
 use Rattle.record.proofs.Held.{written_length}
-use Rattle.record.proofs.Chain.{and_left, and_right, and_no, and_yes}
-use Rattle.calendar.specs.Calendar.{real_day, dashes, dashed_date, plain_date, month_year}
+use Rattle.record.proofs.Chain.{and_left, and_right, and_yes}
+use Rattle.calendar.specs.Calendar.{real_day, dashes, dashed_date, plain_date}
 
 -- the shape, where it was tested
 module _ (xs : List ℕ) (r : Bool) (e : r ≡ dashes xs) (t : r ≡ true) where
@@ -46,16 +45,6 @@ module _ (xs : List ℕ) (r b : Bool) (y m d : ℕ) (t : r ≡ true) (f : b ≡ 
   pub plain_read : r ≡ digits xs → y ≡ numeral (slice 0 4 xs) → m ≡ numeral (slice 4 6 xs) → d ≡ numeral (slice 6 8 xs) → b ≡ plain_date xs
   unfolding plain_date
   plain_read e p q s = and_yes _ _ _ (sym e ∙ t) (f ∙ rw (p, q, s))
-
--- the month that was read decides
-module _ (xs : List ℕ) (r : Bool) (m : ℕ) (e : r ≡ digits xs) (t : r ≡ true) (p : m ≡ numeral (slice 0 2 xs)) where
-  pub month_zero : m < 1 → false ≡ month_year xs
-  unfolding month_year
-  month_zero h = and_yes _ _ _ (sym e ∙ t) (rw (← p) (and_no _ _ (lt-leb 1 m h)))
-
-  pub month_read : 1 ≤ m → leb m 12 ≡ month_year xs
-  unfolding month_year
-  month_read h = and_yes _ _ _ (sym e ∙ t) (rw (← p) (and_yes _ _ _ (le-leb 1 m h) refl))
 
 -- a field of eight bytes, read over its full width
 pub eight : (ascii : Bool) (rec : List ℕ) (f : Field) (r : Bool) → Has rec f → f.width ≡ 8 → r ≡ digits (slice 0 8 (written (shown ascii rec) f)) → r ≡ digits (written (shown ascii rec) f)

@@ -1,6 +1,6 @@
 -- Leap years and the days of a month, by the month's number.
 -- Assumes nothing.
-use mathlib.Core.Path.{◌≡◌, refl, sym, ap, ◌∙◌}
+use mathlib.Core.Path.{◌≡◌, refl, sym, ◌∙◌}
 use mathlib.Core.Bool.{Bool, true, false}
 use mathlib.Core.List.{◌∷◌}
 use mathlib.Core.Logic.{◌⊎◌, inl, inr, ⊎_elim}
@@ -88,10 +88,6 @@ thirty_one y m h k b c =
     (simp
     (ne_eqb m 0 (λ (q : m ≡ 0). lt_irrefl 0 (omega (arith, q, h))), ne_eqb m 2 c, ne_eqb m 4 (λ q. b (inl q)), ne_eqb m 6 (λ q. b (inr (inl q))), ne_eqb m 9 (λ q. b (inr (inr (inl q)))), ne_eqb m 11 (λ q. b (inr (inr (inr q)))))
     at t)
-
--- the days that were asked for
-pub day_is : (y m d n : ℕ) → n ≡ days_in y m → leb d n ≡ leb d (days_in y m)
-day_is y m d n e = ap (leb d) e
 
 pub less_or : (a b : ℕ) → (a < b) ⊎ (b ≤ a)
 less_or a b = go (leb b a) refl

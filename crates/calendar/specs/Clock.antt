@@ -1,5 +1,5 @@
 -- Today, and the rules that need it (02 W4).
-use Rattle.std.specs.Prelude.{ℕ, ◌+◌, ◌-◌, Bool, true, List, leb, eqb, length}
+use Rattle.std.specs.Prelude.{ℕ, ◌+◌, ◌-◌, Bool, true, List, Option, None, Some, leb, eqb, length}
 use Rattle.std.proofs.Math.Seq.{slice}
 use Rattle.record.specs.Choice.{◌and◌, ◌or◌, choose}
 use Rattle.record.specs.Numeral.{numeral}
@@ -7,8 +7,6 @@ use Rattle.calendar.specs.declared.Day.{Day}
 use Rattle.calendar.specs.declared.Month.{Month}
 use Rattle.calendar.specs.declared.Span.{Span}
 use Rattle.calendar.specs.declared.Span.TheVariants.{Ahead, Back}
-use Rattle.calendar.specs.declared.Today.{Today}
-use Rattle.calendar.specs.declared.Today.TheVariants.{Unlent, Lent}
 use Rattle.calendar.specs.Calendar.{days_in, plain_date, month_year, day_number}
 
 -- the day that YYYYMMDD writes
@@ -21,8 +19,8 @@ day_in xs =
     }
 
 -- the month that MMYY writes: years 00 to 99 mean 2000 to 2099; what is no such month is at fault in its own field, and is none here
-unfoldable pub month_in : List ℕ → Month
-month_in xs = choose (month_year xs) (record { year = 2000 + numeral (slice 2 4 xs); month = numeral (slice 0 2 xs) }) (record { year = 0; month = 0 })
+unfoldable pub month_in : List ℕ → Option Month
+month_in xs = choose (month_year xs) (Some (record { year = 2000 + numeral (slice 2 4 xs); month = numeral (slice 0 2 xs) })) None
 
 -- a month's first day and its last
 unfoldable pub first_day : Month → ℕ
@@ -40,8 +38,8 @@ unfoldable pub lendable : List ℕ → Bool
 lendable xs = eqb (length xs) 0 or lent_day xs
 
 -- today, where it is lent
-unfoldable pub today_of : List ℕ → Today
-today_of xs = choose (lent_day xs) (Lent (day_in xs)) Unlent
+unfoldable pub today_of : List ℕ → Option Day
+today_of xs = choose (lent_day xs) (Some (day_in xs)) None
 
 -- the signed difference of two days by their numbers: how many the first lies ahead of the second, or back of it
 unfoldable pub difference : ℕ → ℕ → Span

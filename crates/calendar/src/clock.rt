@@ -2,7 +2,7 @@
 ghost use Rattle.std.specs.Prelude.{◌≡◌, ◌≤◌};
 ghost use Rattle.calendar.specs.Clock.{lent_day, lendable, today_of, first_day, last_day, created, year_allowed, accountable, lies_in, issued};
 
-use crate::{Day, Month, Today, limits};
+use crate::{Day, Month, limits};
 use record::{Field, Justification, Line};
 
 // Today's eight bytes, and how they are taken: EBCDIC, whatever the file is.
@@ -21,31 +21,24 @@ const EBCDIC: Line = Line {
 fn is_day(lent: &[u8]) -> bool
     ensures { result ≡ lent_day lent.now }
 {
-    if lent.len() != 8 {
-        return false;
-    }
-    crate::date_yyyymmdd(lent, EBCDIC, LENT)
+    lent.len() == 8 && crate::date_yyyymmdd(lent, EBCDIC, LENT)
 }
 
 // A real day is lent, or nothing.
 pub fn is_lendable(lent: &[u8]) -> bool
     ensures { result ≡ lendable lent.now }
 {
-    if lent.len() == 0 {
-        return true;
-    }
-    is_day(lent)
+    lent.is_empty() || is_day(lent)
 }
 
 // Today, where it is lent.
-pub fn read_today(lent: &[u8]) -> Today
+pub fn read_today(lent: &[u8]) -> Option<Day>
     ensures { result ≡ today_of lent.now }
 {
     if is_day(lent) {
-        let day = crate::day_of(lent, EBCDIC, LENT);
-        return Today::Lent(day);
+        return Some(crate::day_of(lent, EBCDIC, LENT));
     }
-    Today::Unlent
+    None
 }
 
 // The creation date is not after today (field 17).
@@ -59,16 +52,10 @@ pub fn is_created(today: Day, day: Day) -> bool
 fn is_year_allowed(today: Day, month: Month) -> bool
     ensures { result ≡ year_allowed today month }
 {
-    if month.year <= today.year {
-        return true;
-    }
-    if month.month != 1 {
-        return false;
-    }
-    today.month == 12
+    month.year <= today.year || (month.month == 1 && today.month == 12)
 }
 
-// A month's first day by its number.
+// A month's first day by its number. It and the next differ in the day alone, and specs/Clock.antt has a definition for each.
 fn first_day(month: Month) -> u64
     requires { (1 ≤ month.year) × (month.year ≤ 9999) × (1 ≤ month.month) × (month.month ≤ 12) }
     ensures { result ≡ first_day month }
@@ -90,35 +77,22 @@ pub fn is_accountable(today: Day, month: Month) -> bool
     requires { (1 ≤ month.year) × (month.year ≤ 9999) × (1 ≤ month.month) × (month.month ≤ 12) }
     ensures { result ≡ accountable today month }
 {
-    if !limits::ahead_at_most(31, limits::difference(first_day(month), today.number)) {
-        return false;
-    }
-    if !limits::back_at_most(180, limits::difference(last_day(month), today.number)) {
-        return false;
-    }
-    is_year_allowed(today, month)
+    limits::ahead_at_most(31, limits::difference(first_day(month), today.number))
+        && limits::back_at_most(180, limits::difference(last_day(month), today.number))
+        && is_year_allowed(today, month)
 }
 
 // The day lies in the month.
 fn lies_in(month: Month, day: Day) -> bool
     ensures { result ≡ lies_in month day }
 {
-    if day.year != month.year {
-        return false;
-    }
-    day.month == month.month
+    day.year == month.year && day.month == month.month
 }
 
 // The issue date lies in the accounting month, and is neither too old nor too far ahead (field 59).
 pub fn is_issued(today: Day, month: Month, day: Day) -> bool
     ensures { result ≡ issued today month day }
 {
-    if !lies_in(month, day) {
-        return false;
-    }
     let span = limits::difference(day.number, today.number);
-    if !limits::back_at_most(180, span) {
-        return false;
-    }
-    limits::ahead_at_most(30, span)
+    lies_in(month, day) && limits::back_at_most(180, span) && limits::ahead_at_most(30, span)
 }

@@ -19,53 +19,35 @@ pub struct Day {
     pub number: u64,
 }
 
-// A month of a year; year 0 and month 0 are none.
+// A month of a year.
 #[derive(Clone, Copy)]
 pub struct Month {
     pub year: u64,
     pub month: u64,
 }
 
-// The difference of two days, with its sign.
+// The difference of two days, with its sign. No signed integer holds each difference of two u64.
 #[derive(Clone, Copy)]
 pub enum Span {
     Ahead(u64),
     Back(u64),
 }
 
-// Today, where the caller lends it.
-#[derive(Clone, Copy)]
-pub enum Today {
-    Unlent,
-    Lent(Day),
-}
-
 fn is_leap(year: u64) -> bool
     ensures { result ≡ leap year }
 {
-    if year % 4 != 0 {
-        return false;
-    }
-    if year % 100 != 0 {
-        return true;
-    }
-    year % 400 == 0
+    year % 4 == 0 && (year % 100 != 0 || year % 400 == 0)
 }
 
 // The days of a month, counted from 1.
 fn days_in(year: u64, month: u64) -> u64
     ensures { result ≡ days_in year month }
 {
-    if month < 1 {
-        return 0;
-    }
-    if 12 < month {
-        return 0;
-    }
     match month {
         2 => { if is_leap(year) { 29 } else { 28 } }
         4 | 6 | 9 | 11 => 30,
-        _ => 31,
+        1..=12 => 31,
+        _ => 0,
     }
 }
 
@@ -73,16 +55,7 @@ fn days_in(year: u64, month: u64) -> u64
 fn is_real_day(year: u64, month: u64, day: u64) -> bool
     ensures { result ≡ real_day year month day }
 {
-    if year < 1 {
-        return false;
-    }
-    if 9999 < year {
-        return false;
-    }
-    if day < 1 {
-        return false;
-    }
-    day <= days_in(year, month)
+    1 <= year && year <= 9999 && 1 <= day && day <= days_in(year, month)
 }
 
 // The field has the shape CCYY-MM-DD.
@@ -90,19 +63,11 @@ fn has_dashes(rec: &[u8], line: Line, field: Field) -> bool
     requires { Has rec.now field × (field.width ≡ 10) }
     ensures { result ≡ dashes (written (seen line rec.now) field) }
 {
-    if !record::written_digits(rec, line, field, 0, 4) {
-        return false;
-    }
-    if !record::written_is(rec, line, field, 4, 0x60, 0x2D) {
-        return false;
-    }
-    if !record::written_digits(rec, line, field, 5, 7) {
-        return false;
-    }
-    if !record::written_is(rec, line, field, 7, 0x60, 0x2D) {
-        return false;
-    }
-    record::written_digits(rec, line, field, 8, 10)
+    record::written_digits(rec, line, field, 0, 4)
+        && record::written_is(rec, line, field, 4, 0x60, 0x2D)
+        && record::written_digits(rec, line, field, 5, 7)
+        && record::written_is(rec, line, field, 7, 0x60, 0x2D)
+        && record::written_digits(rec, line, field, 8, 10)
 }
 
 // The field is a date CCYY-MM-DD, as it stands: a date is never moved (02 W3).
@@ -140,10 +105,7 @@ pub fn month_mmyy(rec: &[u8], line: Line, field: Field) -> bool
 {
     if record::field_digits(rec, line, field) {
         let month = record::part_number(rec, line, field, 0, 2);
-        if month < 1 {
-            return false;
-        }
-        return month <= 12;
+        return 1 <= month && month <= 12;
     }
     false
 }
@@ -191,20 +153,20 @@ pub fn day_of(rec: &[u8], line: Line, field: Field) -> Day
 
 // The month of a field that is MMYY, in the years 2000 to 2099; none of any other. A field that is blank, as in all batches but BC, is told
 // first.
-pub fn month_of(rec: &[u8], line: Line, field: Field) -> Month
+pub fn month_of(rec: &[u8], line: Line, field: Field) -> Option<Month>
     requires { Has rec.now field × (field.width ≡ 4) }
     ensures { result ≡ month_in (held (seen line rec.now) field) }
 {
     if record::field_blank(rec, line, field) {
-        return Month { year: 0, month: 0 };
+        return None;
     }
     if month_mmyy(rec, line, field) {
         let month = record::part_number(rec, line, field, 0, 2);
         let year = record::part_number(rec, line, field, 2, 4);
-        return Month {
+        return Some(Month {
             year: 2000 + year,
             month,
-        };
+        });
     }
-    Month { year: 0, month: 0 }
+    None
 }

@@ -14,7 +14,7 @@ pub(crate) fn difference(day: u64, today: u64) -> Span
     Span::Back(today - day)
 }
 
-// At most so many days ahead.
+// At most so many days ahead. One function for this and the next would take the side as a third argument and match on both.
 pub(crate) fn ahead_at_most(most: u64, span: Span) -> bool
     ensures { result ≡ ahead_at_most most span }
 {

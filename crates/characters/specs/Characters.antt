@@ -1,5 +1,5 @@
 -- The bytes that a record may hold (01 Bytes): none below hex 40 outside its fillers.
-use Rattle.std.specs.Prelude.{ℕ, ◌+◌, Bool, true, List, [], ◌∷◌}
+use Rattle.std.specs.Prelude.{ℕ, ◌+◌, Bool, true, List, [], ◌∷◌, Option, Some, None}
 use Rattle.record.specs.declared.codes.Code.{Code}
 use Rattle.record.specs.declared.codes.Code.TheVariants.{FileHeader, Batch, Detail, Party, Account, Procurement, BatchTrailer, FileTrailer, Unknown}
 use Rattle.record.specs.Choice.{◌and◌, ◌or◌, choose}
@@ -30,7 +30,7 @@ clean_in r (row ∷ rows) = (row.unused or valid (written r row.position)) and c
 unfoldable pub clean : Record → Bool
 clean r = clean_in r (rows_of (code_of r))
 
--- the number of the first record with one (01 File answers, 7), n being that of the first of all; 0 where there is none
-unfoldable pub first_unclean : ℕ → List Record → ℕ
-first_unclean n [] = 0
-first_unclean n (r ∷ rs) = choose (clean r) (first_unclean (n + 1) rs) n
+-- the number of the first record with one (01 File answers, 7), n being that of the first of all
+unfoldable pub first_unclean : ℕ → List Record → Option ℕ
+first_unclean n [] = None
+first_unclean n (r ∷ rs) = choose (clean r) (first_unclean (n + 1) rs) (Some n)

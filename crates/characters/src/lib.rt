@@ -79,10 +79,8 @@ fn is_clean_header(rec: &[u8], line: Line) -> bool
     requires { 850 ≤ length rec.now }
     ensures { result ≡ clean_in (seen line rec.now) (layout BatchHeader) }
 {
-    if !record::written_valid(rec, line, BATCH_HEADER_FRONT) {
-        return false;
-    }
-    record::written_valid(rec, line, BATCH_HEADER_BACK)
+    record::written_valid(rec, line, BATCH_HEADER_FRONT)
+        && record::written_valid(rec, line, BATCH_HEADER_BACK)
 }
 
 // No byte of the record, which has this code, is below hex 40 outside its fillers.

@@ -1,36 +1,29 @@
 // Shows the number of each day that another program's calendar made (02 W4): a line for each eight bytes on standard input, as today is lent.
 #![tactic(auto)]
 
-use calendar::{Today, clock};
+use calendar::clock;
+use loading::Parts;
+use std::io;
+
+// The most days that are shown.
+const MOST: usize = 100000;
 
 // The number of a day; of what is no day, that it is none.
-fn show_day(lent: &[u8]) {
-    let today = clock::read_today(lent);
-    match today {
-        Today::Lent(day) => {
-            io::print_decimal(1, day.number);
-        }
-        Today::Unlent => {
-            io::write_all(1, b"none");
-        }
+fn show_day(rt: &impl Print, lent: &[u8]) -> io::Result<()> {
+    match clock::read_today(lent) {
+        Some(day) => println!(rt; "{}", day.number),
+        None => println!(rt; "none"),
     }
 }
 
-// Reads and shows one day, and answers whether there was one.
-fn show_next() -> bool {
-    let mut lent = [0u8; 8];
-    let n = io::read_full(0, &mut lent);
-    if n < 8 {
-        return false;
+fn show_days(rt: &impl Print) -> io::Result<()> {
+    for lent in (Parts::<8> { most: MOST }) {
+        show_day(rt, &lent)?;
     }
-    show_day(&lent);
-    io::write_all(1, b"\n");
-    true
+    Ok(())
 }
 
-fn main() {
-    let mut turns: u64 = 100000;
-    while turns > 0 && show_next() {
-        turns -= 1;
-    }
+// Its exit status doesn't tell whether standard output took the lines.
+fn main(rt: HostRuntime) {
+    let _ = show_days(&rt);
 }

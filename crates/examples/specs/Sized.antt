@@ -1,6 +1,6 @@
 -- What a file of the table may have: records that its space holds, and numbers that its FT can say in four digits.
-use Rattle.std.specs.Prelude.{◌≤◌, ◌<◌}
-use Rattle.examples.specs.declared.files.Made.{Made}
+use Rattle.std.specs.Prelude.{ℕ, ◌≤◌, ◌<◌}
 
-abbrev pub Sized : Made → Type 0
-Sized made = (2 ≤ made.records) × (made.records ≤ 3700) × (made.payments < 10000) × (made.batches < made.records)
+-- of records, payments and batches
+abbrev pub Sized : ℕ → ℕ → ℕ → Type 0
+Sized records payments batches = (2 ≤ records) × (records ≤ 3700) × (payments < 10000) × (batches < records)

@@ -1,20 +1,26 @@
 // Files in ASCII (02 W2).
-ghost use Rattle.std.specs.Prelude.{◌≤◌};
+ghost use Rattle.std.specs.Prelude.{◌≡◌};
 
-use crate::files::{AT_HAND, RECORDS, SPACE};
+use crate::files::MOST;
+use cases::files::{File, Record};
 
-// The ASCII of an EBCDIC byte: it stands after the records at hand.
-fn ascii_of(at_hand: &[u8; AT_HAND], x: u8) -> u8 {
-    at_hand[RECORDS + numbers::wide(x) as usize]
+// The ASCII of the bytes; the table has that of each byte of code page 037.
+fn turn_bytes(bytes: &mut [u8], ascii: &[u8; 256]) {
+    for byte in bytes {
+        *byte = ascii[usize::from(*byte)];
+    }
 }
 
-// Turns the first bytes of the file into ASCII.
-pub(crate) fn turn(file: &mut [u8; SPACE], at_hand: &[u8; AT_HAND], end: usize)
-    requires { end ≤ 3145000 }
-{
-    let mut at: usize = 0;
-    while at < end {
-        file[at] = ascii_of(at_hand, file[at]);
-        at += 1;
+fn turn_records(records: &mut [Record], ascii: &[u8; 256]) {
+    for record in records {
+        turn_bytes(record, ascii);
     }
+}
+
+// Turns the records of the file into ASCII.
+pub(crate) fn turn(file: &mut File<MOST>, ascii: &[u8; 256])
+    ensures { file.new.count ≡ file.old.count }
+{
+    let count = file.count;
+    turn_records(&mut file.space[0..count], ascii);
 }

@@ -7,186 +7,138 @@ mod ascii;
 mod case;
 mod changes;
 mod files;
-mod table;
 
-ghost use Rattle.std.specs.Prelude.{◌+◌, ◌≤◌, ◌<◌, length};
-ghost use Rattle.report.specs.Rows.{room_for};
-ghost use Rattle.examples.specs.Sized.{Sized};
+ghost use Rattle.std.specs.Prelude.{◌≤◌, length};
 
-use case::{BOOK, Case, TODAY};
-use files::{AT_HAND, RECORDS, SPACE};
+use case::{BOOK, Case, Stock, TODAY};
+use cases::files::{AT_HAND, AtHand};
+use std::alloc::AllocError;
+use std::{array, io};
 
-// The most bytes of the table.
+// The most bytes of the table. A row is a label, then items, each a word that names it and the words that it takes.
 const TABLE: usize = 458752;
+
+// The bytes of the sound records, and of the ASCII of each byte of code page 037 behind them.
+const HAND: usize = 35956;
+
+// The columns of a label.
+const LABEL: usize = 56;
 
 // The bytes of the report space; the judge is lent the first of them.
 const REPORT: usize = 1024;
 
 // What the report space holds before: bytes that differ from those beside them.
-fn mark(i: usize) -> u8 {
-    (i % 251) as u8
-}
-
 fn marked() -> [u8; REPORT] {
-    let mut report = [0u8; REPORT];
-    let mut i: usize = 0;
-    while i < REPORT {
-        report[i] = mark(i);
-        i += 1;
-    }
-    report
+    array::from_fn(|i| (i % 251) as u8)
 }
 
-// The bytes from here on are as they were.
-fn is_kept(report: &[u8; REPORT], from: usize) -> bool {
-    let mut at = from;
-    while at < REPORT {
-        if report[at] != mark(at) {
-            return false;
+// Shows the rows that stand in a part of the report.
+fn show_rows(rt: &impl Print, rows: &[u8]) -> io::Result<()> {
+    for row in rows.chunks_exact(64) {
+        for number in row.chunks_exact(8) {
+            print!(rt; " {}", numbers::read(number))?;
         }
-        at += 1;
+        print!(rt; " /")?;
     }
-    true
+    Ok(())
 }
 
-fn show_kept(report: &[u8; REPORT], from: usize) {
-    if is_kept(report, from) {
-        io::write_all(1, b" kept");
+// Shows whether the bytes from here on are as they were.
+fn show_kept(rt: &impl Print, report: &[u8; REPORT], from: usize) -> io::Result<()>
+    requires { from ≤ 1024 }
+{
+    if report[from..] == marked()[from..] {
+        print!(rt; " kept")
     } else {
-        io::write_all(1, b" changed");
+        print!(rt; " changed")
     }
 }
 
-// Shows the number of eight little-endian bytes.
-fn show_number(report: &[u8], at: usize)
-    requires { at + 8 ≤ length report.now }
-{
-    let end = at + 8;
-    io::write_all(1, b" ");
-    io::print_decimal(1, numbers::read(&report[at..end]));
-}
-
-// Shows the eight numbers of a row.
-fn show_row(report: &[u8], at: usize)
-    requires { at + 64 ≤ length report.now }
-{
-    let end = at + 64;
-    let mut i = at;
-    while i + 8 <= end {
-        show_number(report, i);
-        i += 8;
-    }
-    io::write_all(1, b" /");
-}
-
-// Shows the head, and the rows of so many batches.
-fn show_rows(report: &[u8; REPORT], batches: usize)
-    requires { (batches < 65536) × (room_for batches ≤ 1024) }
-{
-    show_row(report, 0);
-    let mut place: usize = 0;
-    while place < batches {
-        show_row(report, report::row_at(place));
-        place += 1;
-    }
-}
-
-// Judges, and shows the answer; an accepted file has so many batches.
-fn show_answer(file: &[u8], book: &[u8], today: &[u8], room: usize, batches: usize)
-    requires { (room ≤ 1024) × (batches < 65536) × (room_for batches ≤ 1024) }
+// Judges, and shows the answer; an accepted file has rows of so many bytes.
+fn show_answer(
+    rt: &impl Print,
+    file: &[u8],
+    book: &[u8],
+    today: &[u8],
+    room: usize,
+    rows: usize,
+) -> io::Result<()>
+    requires { (room ≤ 1024) × (rows ≤ 1024) }
 {
     let mut report = marked();
     let answer = judge::srf_judge_with(file, book, today, &mut report[..room]);
-    io::print_decimal(1, answer);
-    io::write_all(1, b" /");
-    if answer == 0 {
-        show_rows(&report, batches);
-        show_kept(&report, report::room_for(batches));
-    } else {
-        show_kept(&report, 0);
+    print!(rt; "{answer} /")?;
+    if answer != 0 {
+        return show_kept(rt, &report, 0);
     }
-}
-
-// Today stands in the book's space, after the book.
-fn show_lent(file: &[u8], book: &[u8], space: &[u8], size: usize, room: usize, batches: usize)
-    requires { (room ≤ 1024) × (batches < 65536) × (room_for batches ≤ 1024) }
-{
-    if size <= 16 {
-        let today = TODAY;
-        let end = today + size;
-        if end <= space.len() {
-            show_answer(file, book, &space[today..end], room, batches);
-        }
-    }
+    show_rows(rt, &report[..rows])?;
+    show_kept(rt, &report, rows)
 }
 
 // What a case lends has to lie within its space.
-fn show_case(file: &[u8], book: &[u8], case: Case)
-    requires { Sized case.made }
-{
-    let made = case.made;
-    let batches = made.batches;
-    let rows = report::room_for(batches);
-    let file_end = case.file;
-    let book_end = case.book;
-    if case.report <= REPORT && rows <= REPORT && file_end <= file.len() && book_end <= book.len() {
-        show_lent(
-            &file[..file_end],
-            &book[..book_end],
-            book,
-            case.today,
-            case.report,
-            batches,
-        );
+fn show_case(rt: &impl Print, case: &Case) -> io::Result<()> {
+    let rows = report::room_for(case.made.batches);
+    let lent = case.lent;
+    if lent.report > REPORT || rows > REPORT {
+        return Ok(());
     }
-}
-
-// The case of a row, over a book that its items may change.
-fn show_items(
-    file: &mut [u8; SPACE],
-    at_hand: &[u8; AT_HAND],
-    book: &mut [u8; BOOK],
-    size: usize,
-    row: &[u8],
-) {
-    let case = case::make_case(file, at_hand, book, size, row);
-    show_case(file, book, case);
+    let Some(file) = case.made.file.bytes().get(..lent.file) else {
+        return Ok(());
+    };
+    let Some(book) = case.book.get(..lent.book) else {
+        return Ok(());
+    };
+    let Some(today) = case.book[TODAY..].get(..lent.today) else {
+        return Ok(());
+    };
+    show_answer(rt, file, book, today, lent.report, rows)
 }
 
 // A row: its label, and what the judge answers.
-fn show_line(
-    file: &mut [u8; SPACE],
-    at_hand: &[u8; AT_HAND],
-    book: [u8; BOOK],
-    size: usize,
-    row: &[u8],
-) {
-    let mut own = book;
-    if row.len() >= table::LABEL {
-        io::write_all(1, &row[..table::LABEL]);
-        show_items(file, at_hand, &mut own, size, row);
-        io::write_all(1, b"\n");
-    }
+fn show_line(rt: &impl Print, case: &mut Case, stock: Stock<'_>, row: &[u8]) -> io::Result<()> {
+    let Some((label, items)) = row.split_at_checked(LABEL) else {
+        return Ok(());
+    };
+    rt.write_all(label)?;
+    case.make(stock, items);
+    show_case(rt, case)?;
+    println!(rt;)
 }
 
 // Shows each row of the table.
-fn show_table(at_hand: &[u8; AT_HAND], book: [u8; BOOK], size: usize, table: &[u8]) {
-    let mut file = [0x40u8; SPACE];
-    let mut at: usize = 0;
-    while at < table.len() {
-        let end = table::row_end(table, at);
-        show_line(&mut file, at_hand, book, size, &table[at..end]);
-        at = end + 1;
+fn show_table(rt: &impl Print, case: &mut Case, stock: Stock<'_>, table: &[u8]) -> io::Result<()> {
+    for row in table.split(|byte| *byte == b'\n') {
+        show_line(rt, case, stock, row)?;
+    }
+    Ok(())
+}
+
+// Reads the sound records, and behind them the ASCII.
+fn read_at_hand(rt: &HostRuntime, at_hand: &mut [u8; HAND]) {
+    loading::read_file(rt, "records.bin", &mut at_hand[..]);
+    loading::read_file(rt, "ascii.bin", &mut at_hand[AT_HAND..]);
+}
+
+fn stock_of<'a>(at_hand: &'a [u8; HAND], book: &'a [u8; BOOK], size: usize) -> Stock<'a> {
+    let (ascii, _) = at_hand[AT_HAND..].as_chunks::<256>();
+    Stock {
+        at_hand: AtHand::new(&at_hand[..]),
+        ascii: &ascii[0],
+        book,
+        size,
     }
 }
 
-fn main(rt: HostRuntime) {
-    let mut book = [0u8; BOOK];
-    let mut at_hand = [0x40u8; AT_HAND];
-    let mut table = [0u8; TABLE];
+// Its exit status doesn't tell whether standard output took the rows.
+fn main(rt: HostRuntime) -> Result<(), AllocError> {
+    let mut book = [0; BOOK];
+    let mut at_hand = [0x40; HAND];
+    let mut table = [0; TABLE];
     let size = loading::read_file(&rt, "book.bin", &mut book);
-    loading::read_file(&rt, "records.bin", &mut at_hand);
-    loading::read_file(&rt, "ascii.bin", &mut at_hand[RECORDS..]);
-    let end = io::read_full(0, &mut table);
-    show_table(&at_hand, book, size, &table[..end]);
+    read_at_hand(&rt, &mut at_hand);
+    let end = loading::read_input(&mut table);
+    let stock = stock_of(&at_hand, &book, size);
+    let mut case = Case::new(rt.alloc(), stock)?;
+    let _ = show_table(&rt, &mut case, stock, &table[..end]);
+    Ok(())
 }

@@ -15,8 +15,8 @@ use Rattle.record.specs.Routing.{prefix_listed, routing}
 use Rattle.money.specs.declared.Amount.{Amount}
 use Rattle.money.specs.Money.{split, total, side}
 use Rattle.calendar.specs.Calendar.{leap, lengths, days_in, real_day, dashes, dashed_date}
-use Rattle.nesting.specs.declared.Verdict.{Verdict}
-use Rattle.nesting.specs.declared.Verdict.TheVariants.{Legal, Refused}
+use Rattle.std.specs.Prelude.{Result, Ok, Err}
+use Rattle.nesting.specs.declared.Counts.{Counts}
 use Rattle.nesting.specs.Division.{All}
 use Rattle.nesting.specs.Promise.{Nested}
 use Rattle.nesting.proofs.Examples as nests
@@ -29,7 +29,7 @@ pub data Example : Type 0 where
   Date : ℕ → ℕ → ℕ → Bool → Example  -- year, month, day; whether it is a date
   Sum : ℕ → ℕ → Amount → Example  -- two amounts; how the sum is written
   Balance : ℕ → List Entry → Bool → Example  -- a payment, its DT (credit or not, cents); whether they balance
-  Nesting : List Code → Verdict → Example  -- the records of a file, one ID throughout; legal, or where it fails
+  Nesting : List Code → Result Counts ℕ → Example  -- the records of a file, one ID throughout; legal, or where it fails
 
 -- the k last digits of a number, in EBCDIC
 pub text : ℕ → ℕ → List ℕ
@@ -65,11 +65,11 @@ examples =
     ∷ Balance 100 ((false, 130) ∷ (true, 30) ∷ []) true
     ∷ Balance 100 ((true, 100) ∷ []) true
     ∷ Balance 100 ((true, 50) ∷ (true, 50) ∷ []) false
-    ∷ Nesting (FileHeader ∷ Batch N ∷ Detail N ∷ Party ∷ BatchTrailer ∷ FileTrailer ∷ []) (Legal 1 1)
-    ∷ Nesting (FileHeader ∷ Batch N ∷ Detail N ∷ BatchTrailer ∷ []) (Refused 4)
-    ∷ Nesting (FileHeader ∷ Batch N ∷ Detail W ∷ []) (Refused 3)
-    ∷ Nesting (FileHeader ∷ Batch N ∷ Detail N ∷ Party ∷ []) (Refused 5)
-    ∷ Nesting (FileHeader ∷ FileTrailer ∷ []) (Refused 2)
+    ∷ Nesting (FileHeader ∷ Batch N ∷ Detail N ∷ Party ∷ BatchTrailer ∷ FileTrailer ∷ []) (Ok (record { batches = 1; payments = 1 }))
+    ∷ Nesting (FileHeader ∷ Batch N ∷ Detail N ∷ BatchTrailer ∷ []) (Err 4)
+    ∷ Nesting (FileHeader ∷ Batch N ∷ Detail W ∷ []) (Err 3)
+    ∷ Nesting (FileHeader ∷ Batch N ∷ Detail N ∷ Party ∷ []) (Err 5)
+    ∷ Nesting (FileHeader ∷ FileTrailer ∷ []) (Err 2)
     ∷ []
 
 pub all_right : All Right examples

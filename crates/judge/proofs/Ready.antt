@@ -10,17 +10,19 @@ use lib.ListN.{length}
 use borrow.Author.Tests.{eqb-true, eqb-false, ltb-true, ltb-false}
 use Rattle.page.specs.CodePage.{shown, is_ascii}
 use Rattle.page.proofs.Shown.{translated_is}
-use Rattle.calendar.specs.declared.Today.{Today}
+use Rattle.calendar.specs.declared.Day.{Day}
 use Rattle.calendar.specs.Clock.{today_of}
 use Rattle.book.specs.Book.{Contents, Lists, listed_at, Usable, placed}
-use Rattle.book.specs.Book.Opened.{sound}
 use Rattle.book.proofs.Chains.{usable, listed_there}
 use Rattle.nesting.specs.Division.{Division, DivisionOf}
 use Rattle.nesting.specs.Records.{records, Cuttable}
 use Rattle.report.specs.Rows.{room_for}
-use Rattle.verdict.specs.declared.Verdict.{Verdict}
-use Rattle.verdict.specs.Answer.{Reason, number_of, Applies, refusal, acceptance, Judgement}
-use Rattle.verdict.specs.Answer.Reason.{Ragged, TooLong, ReportShort}
+use Rattle.std.specs.Prelude.{Option, Result, Ok, Err}
+use Rattle.verdict.specs.declared.Accepted.{Accepted}
+use Rattle.verdict.specs.declared.Refusal.{Refusal}
+use Rattle.verdict.specs.declared.reason.Reason.{Reason}
+use Rattle.verdict.specs.Answer.{number_of, Applies, refusal, acceptance, Judgement}
+use Rattle.verdict.specs.declared.reason.Reason.TheVariants.{Ragged, TooLong, ReportShort}
 use Rattle.verdict.specs.Answer.Judgement.{refused, accepted}
 use Rattle.verdict.proofs.Numbers.{some_number}
 use Rattle.rows.specs.Report.{head_of, Writable, Written, reported, rows_of}
@@ -53,7 +55,7 @@ module _ (file book today : List ℕ) where
         go false e = ltb-false _ _ e
 
   -- what the entry knows where the verdict is 0
-  pub record Ready (report : List ℕ) (v : Verdict) : Type 0 where
+  pub record Ready (report : List ℕ) (v : Accepted) : Type 0 where
     pub none : (j : Reason) → Applies file book today (length report) j → ⊥
     pub contents : Contents
     pub lists : Lists book contents
@@ -61,17 +63,19 @@ module _ (file book today : List ℕ) where
     pub divided : DivisionOf (records file) division
     pub is : v ≡ acceptance contents division
 
-  pub ready : (report : List ℕ) (v : Verdict) → Judgement file book today (length report) v → v.answer ≡ 0 → Ready report v
-  unfolding refusal
-  ready report v (refused k m r) e = absurd (not_zero k m e)
-  ready report v (accepted n c l d h) e = record { none = n; contents = c; lists = l; division = d; divided = h; is = refl }
+  pub ready : (report : List ℕ) (v : Accepted) → Judgement file book today (length report) (Ok v) → Ready report v
+  ready report v j = go _ j refl
+    where
+      go : (r : Result Accepted Refusal) → Judgement file book today (length report) r → r ≡ Ok v → Ready report v
+      go _ (refused k m r) e = cc
+      go _ (accepted n c l d h) e = record { none = n; contents = c; lists = l; division = d; divided = h; is = cc }
 
-  module _ (report : List ℕ) (v : Verdict) (r : Ready report v) where
+  module _ (report : List ℕ) (v : Accepted) (r : Ready report v) where
     pub ready_usable : Usable book v.shelves
     unfolding acceptance placed
-    ready_usable = rw r.is (usable book (placed r.contents) (sound r.contents r.lists) refl)
+    ready_usable = rw r.is (usable book r.contents r.lists)
 
-    pub ready_writable : Writable file v.payments v.total v.batches report
+    pub ready_writable : Writable file v.counts.payments v.total v.counts.batches report
     unfolding acceptance
     ready_writable =
         rw r.is
@@ -89,21 +93,25 @@ module _ (file book today : List ℕ) where
     ready_judged : (after : List ℕ) → Written (listed_at book v.shelves) (today_of today) file report after → Judged file book today report 0 after
     unfolding acceptance
     ready_judged after w =
-        let there : listed_at book v.shelves ≡ r.contents = ap (λ (u : Verdict). listed_at book u.shelves) r.is ∙ listed_there book r.contents r.lists in
+        let there : listed_at book v.shelves ≡ r.contents = ap (λ (u : Accepted). listed_at book u.shelves) r.is ∙ listed_there book r.contents r.lists in
         let e = w r.division r.divided ∙ ap (λ (c : Contents). reported report (head_of r.division) (rows_of c (today_of today) r.division)) there in
         rw e (Judged.accepted r.none r.contents r.lists r.division r.divided)
 
   -- a refusal leaves the report as it was
-  kept : (report : List ℕ) (v : Verdict) → Judgement file book today (length report) v → (v.answer ≡ 0 → ⊥) → Judged file book today report v.answer report
-  unfolding refusal acceptance
-  kept report v (refused k m r) n = Judged.refused k m r
-  kept report v (accepted n c l d h) z = absurd (z refl)
+  kept : (report : List ℕ) (v : Refusal) → Judgement file book today (length report) (Err v) → Judged file book today report (number_of v.reason * 100000 + v.record_number) report
+  kept report v j = go _ j refl
+    where
+      go : (r : Result Accepted Refusal) → Judgement file book today (length report) r → r ≡ Err v → Judged file book today report (number_of v.reason * 100000 + v.record_number) report
+      go _ (refused k m r) e =
+          let q : refusal k m ≡ v = cc in
+          rw (← q) (Judged.refused k m r)
+      go _ (accepted n c l d h) e = cc
 
 -- the same of the file that was sent, which is ASCII or not
-module _ (sent book today : List ℕ) (ascii : Bool) (a : ascii ≡ is_ascii sent) (report : List ℕ) (v : Verdict) where
-  pub ready_promised : Ready (shown ascii sent) book today report v → (day : Today) → day ≡ today_of today → (after : List ℕ) → Written (listed_at book v.shelves) day (shown ascii sent) report after
+module _ (sent book today : List ℕ) (ascii : Bool) (a : ascii ≡ is_ascii sent) (report : List ℕ) where
+  pub ready_promised : (v : Accepted) → Ready (shown ascii sent) book today report v → (day : Option Day) → day ≡ today_of today → (after : List ℕ) → Written (listed_at book v.shelves) day (shown ascii sent) report after
       → Promised sent book today report 0 after
-  ready_promised r day e after w = rw (← translated_is sent ascii a) (ready_judged (shown ascii sent) book today report v r after (rw e at w))
+  ready_promised v r day e after w = rw (← translated_is sent ascii a) (ready_judged (shown ascii sent) book today report v r after (rw e at w))
 
-  pub kept_promised : Judgement (shown ascii sent) book today (length report) v → (v.answer ≡ 0 → ⊥) → Promised sent book today report v.answer report
-  kept_promised j n = rw (← translated_is sent ascii a) (kept (shown ascii sent) book today report v j n)
+  pub kept_promised : (v : Refusal) → Judgement (shown ascii sent) book today (length report) (Err v) → (n : ℕ) → n ≡ number_of v.reason * 100000 + v.record_number → Promised sent book today report n report
+  kept_promised v j n e = rw e (rw (← translated_is sent ascii a) (kept (shown ascii sent) book today report v j))

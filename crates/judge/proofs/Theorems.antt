@@ -1,5 +1,6 @@
 -- What the entry's promise comes to: refused for nesting exactly when no legal division exists; rejected batches count.
 -- Assumes nothing.
+use Rattle.std.specs.Prelude.{Some}
 use mathlib.Core.Path.{◌≡◌, refl, sym, ◌∙◌}
 use mathlib.Core.Bool.{Bool, true, false, true≢false}
 use mathlib.Core.List.{List, [], ◌∷◌, ◌++◌}
@@ -20,7 +21,8 @@ use Rattle.nesting.specs.Records.{records, Cuttable}
 use Rattle.nesting.specs.Promise.{RefusedAt}
 use Rattle.nesting.proofs.Cuts.{cut_length}
 use Rattle.characters.specs.Characters.{clean, first_unclean}
-use Rattle.verdict.specs.Answer.{Reason, number_of, stated, Applies, Names, NoneOf, Refused}
+use Rattle.verdict.specs.declared.reason.Reason.{Reason}
+use Rattle.verdict.specs.Answer.{number_of, stated, Applies, Names, NoneOf, Refused}
 use Rattle.verdict.proofs.Numbers.{one_reason}
 use Rattle.verdict.proofs.Theorems.{same_place}
 use Rattle.judge.specs.Judged.{Judged}
@@ -40,15 +42,14 @@ module _ (file book today : List ℕ) (room : ℕ) (j : Reason) (earlier later :
   the_first k m r = same_place file book today room r.earlier earlier r.later later k j (sym r.order ∙ order) r.first none r.applies holds
 
 -- the record named has a number of five digits
-choose_small : (t : Bool) (a b n : ℕ) → a ≤ n → b ≤ n → choose t a b ≤ n
-unfolding choose
-choose_small true a b n h k = h
-choose_small false a b n h k = k
-
-unclean_small : (n : ℕ) (rs : List Record) → first_unclean n rs ≤ n + length rs
-unfolding first_unclean
-unclean_small n [] = omega arith
-unclean_small n (r ∷ rs) = choose_small (clean r) _ _ _ (omega (arith, unclean_small (n + 1) rs)) (omega arith)
+unclean_small : (n : ℕ) (rs : List Record) (m : ℕ) → Some m ≡ first_unclean n rs → m ≤ n + length rs
+unfolding first_unclean choose
+unclean_small n [] m e = absurd (cc)
+unclean_small n (r ∷ rs) m e = go (clean r) e (unclean_small (n + 1) rs m)
+  where
+    go : (b : Bool) → Some m ≡ choose b (first_unclean (n + 1) rs) (Some n) → (Some m ≡ first_unclean (n + 1) rs → m ≤ n + 1 + length rs) → m ≤ n + length (r ∷ rs)
+    go true h k = omega (arith, k h)
+    go false h k = let q : m ≡ n = cc in omega arith
 
 module _ (file book today : List ℕ) (w : Cuttable file) where
   few : length (records file) ≤ 65535
@@ -63,7 +64,7 @@ module _ (file book today : List ℕ) (w : Cuttable file) where
   named_small room Reason.NoDay m e = omega arith
   named_small room Reason.Nesting m e = omega (arith, few, e.to)
   named_small room Reason.ReportShort m e = omega arith
-  named_small room Reason.LowByte m e = omega (arith, few, e, unclean_small 1 (records file))
+  named_small room Reason.LowByte m e = omega (arith, few, unclean_small 1 (records file) m e)
   named_small room Reason.InputSystem m e = omega arith
   named_small room Reason.Version m e = omega arith
   named_small room Reason.TrailerDigits m e = omega (arith, few, e)

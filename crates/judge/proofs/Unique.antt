@@ -9,24 +9,25 @@ use Rattle.book.proofs.Chains.{lists_one}
 use Rattle.nesting.specs.Division.{Division}
 use Rattle.nesting.specs.Records.{records}
 use Rattle.nesting.proofs.OneDivision.{one_division}
-use Rattle.verdict.specs.declared.Verdict.{Verdict}
-use Rattle.verdict.specs.Answer.{Reason, number_of, refusal, acceptance, Judgement}
+use Rattle.std.specs.Prelude.{Ok, Err}
+use Rattle.verdict.specs.declared.Refusal.{Refusal}
+use Rattle.verdict.specs.declared.reason.Reason.{Reason}
+use Rattle.verdict.specs.Answer.{number_of, refusal, acceptance, Judgement}
 use Rattle.verdict.proofs.Theorems.{one_judgement}
 use Rattle.judge.specs.Judged.{Judged}
-use Rattle.judge.proofs.Ready.{not_zero}
 use Rattle.judge.proofs.srf_judge_with.Reads as srf-judge-with
 use Rattle.judge.proofs.srf_judge.Reads as srf-judge
 
 module _ (file book today report : List ℕ) where
   -- two refusals have one number
-  refusals : (k j : Reason) (m i : ℕ) → Judgement file book today (length report) (refusal k m) → Judgement file book today (length report) (refusal j i) → number_of k * 100000 + m ≡ number_of j * 100000 + i
-  unfolding refusal
-  refusals k j m i p q = ap (λ (v : Verdict). v.answer) (one_judgement file book today (length report) (refusal k m) (refusal j i) p q)
+  refusals : (k j : Reason) (m i : ℕ) → Judgement file book today (length report) (Err (refusal k m)) → Judgement file book today (length report) (Err (refusal j i)) → number_of k * 100000 + m ≡ number_of j * 100000 + i
+  refusals k j m i p q =
+      let e : refusal k m ≡ refusal j i = cc (one_judgement file book today (length report) (Err (refusal k m)) (Err (refusal j i)) p q) in
+      ap (λ (v : Refusal). number_of v.reason * 100000 + v.record_number) e
 
   -- no file is refused and accepted
-  apart : (k : Reason) (m : ℕ) (c : Contents) (d : Division) → Judgement file book today (length report) (refusal k m) → Judgement file book today (length report) (acceptance c d) → ⊥
-  unfolding refusal acceptance
-  apart k m c d p q = not_zero k m (ap (λ (v : Verdict). v.answer) (one_judgement file book today (length report) (refusal k m) (acceptance c d) p q))
+  apart : (k : Reason) (m : ℕ) (c : Contents) (d : Division) → Judgement file book today (length report) (Err (refusal k m)) → Judgement file book today (length report) (Ok (acceptance c d)) → ⊥
+  apart k m c d p q = cc (one_judgement file book today (length report) (Err (refusal k m)) (Ok (acceptance c d)) p q)
 
 -- one number and one report
 pub one_judged : (file book today report : List ℕ) (r s : ℕ) (x y : List ℕ) → Judged file book today report r x → Judged file book today report s y → (r ≡ s) × (x ≡ y)

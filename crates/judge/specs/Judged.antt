@@ -6,7 +6,8 @@ use Rattle.calendar.specs.Clock.{today_of}
 use Rattle.book.specs.Book.{Contents, Lists}
 use Rattle.nesting.specs.Division.{Division, DivisionOf}
 use Rattle.nesting.specs.Records.{records}
-use Rattle.verdict.specs.Answer.{Reason, number_of, Applies, Refused}
+use Rattle.verdict.specs.declared.reason.Reason.{Reason}
+use Rattle.verdict.specs.Answer.{number_of, Applies, Refused}
 use Rattle.rows.specs.Report.{head_of, rows_of, reported}
 
 -- the number returned and the report afterwards

@@ -11,26 +11,24 @@ pub fn srf_judge_with(file: &[u8], book: &[u8], today: &[u8], report: &mut [u8])
     ensures { Promised file.now book.now today.now report.old result report.new }
 {
     let ascii = page::is_ascii(file);
-    let found = verdict::file_answer(file, ascii, book, today, report.len());
-    let answer = found.answer;
-    if answer != 0 {
-        return answer;
+    match verdict::file_answer(file, ascii, book, today, report.len()) {
+        Err(refusal) => refusal.answer(),
+        Ok(accepted) => {
+            let day = calendar::clock::read_today(today);
+            rows::write_rows(
+                file,
+                ascii,
+                book,
+                accepted.shelves,
+                day,
+                accepted.counts.payments,
+                accepted.total,
+                accepted.counts.batches,
+                report,
+            );
+            0
+        }
     }
-    let day = calendar::clock::read_today(today);
-    let shelves = found.shelves;
-    let total = found.total;
-    rows::write_rows(
-        file,
-        ascii,
-        book,
-        shelves,
-        day,
-        found.payments,
-        total,
-        found.batches,
-        report,
-    );
-    0
 }
 
 // The same with nothing lent for today (01: one entry takes the file, the book and the report space).

@@ -8,7 +8,7 @@ use native.Mathlib.Omega.{arith}
 use borrow.Author.Tests.{lt-ltb}
 use lib.ListN.{length}
 use Rattle.record.specs.declared.codes.Code.{Code}
-use Rattle.record.specs.Choice.{◌and◌, choose}
+use Rattle.record.specs.Choice.{choose}
 use Rattle.page.specs.CodePage.{shown}
 use Rattle.record.specs.Codes.{code_of}
 use Rattle.nesting.specs.Records.{cut, record_at}
@@ -16,7 +16,7 @@ use Rattle.nesting.proofs.Cuts.{record_from, from_place, onward, cut_onward, cut
 use Rattle.tables.specs.declared.Entry.{Entry}
 use Rattle.tables.specs.declared.Key.TheVariants.{Kind}
 use Rattle.tables.specs.Kind.{kind}
-use Rattle.tables.specs.Tables.{Stands, Tabled, member, is_new, entry_of, table_after}
+use Rattle.tables.specs.Tables.{Stands, Tabled, member, entry_of, table_after}
 use Rattle.tables.proofs.Tables.{Holds, member_again, holds_none, known_is, count_known, holds_known, count_new, holds_new, after_length}
 use Rattle.kinds.specs.Kinds.{is_account, kinds, different, crowded}
 use Rattle.kinds.specs.Counting.{counted, table_counted}
@@ -45,14 +45,9 @@ module _ (first : ℕ) (bytes table : List ℕ) (count place : ℕ) where
     unfolding table_counted choose
     table_own after a = rw o a
 
-    pub count_own : (e : Entry) (r : ℕ) → e ≡ entry_of first Kind bytes table count place → r ≡ choose e.known count (count + 1) → count < length table
-        → r ≡ counted first bytes table count place
-    unfolding counted entry_of is_new ◌and◌ choose
-    count_own e r q z l = go e.known refl
-      where
-        go : (b : Bool) → e.known ≡ b → r ≡ counted first bytes table count place
-        go true k = z ∙ rw (k, o, sym (ap (λ (x : Entry). x.known) q) ∙ k)
-        go false k = z ∙ rw (k, o, sym (ap (λ (x : Entry). x.known) q) ∙ k, lt-ltb count (length table) l)
+    pub count_own : (e : Entry) → e ≡ entry_of first Kind bytes table count place → e.count ≡ counted first bytes table count place
+    unfolding counted choose
+    count_own e q = rw o (ap (λ (x : Entry). x.count) q)
 
 -- the table holds the kinds so far, and what is left of the records decides
 pub record Counted (first : ℕ) (bytes : List ℕ) (records place : ℕ) (table : List ℕ) (count : ℕ) : Type 0 where

@@ -22,10 +22,7 @@ pub const MOST: usize = 1000;
 fn is_account(code: Code) -> bool
     ensures { result ≡ is_account code }
 {
-    match code {
-        Code::Account => true,
-        _ => false,
-    }
+    matches!(code, Code::Account)
 }
 
 // The record at the place is a DT.
@@ -41,18 +38,6 @@ fn has_kind(file: &[u8], first: Line, place: usize) -> bool
     is_account(code)
 }
 
-// The kinds with one more, unless it is known.
-fn with_kind(known: bool, before: usize) -> usize
-    requires { before < 65536 }
-    ensures { result ≡ choose known before (before + 1) }
-{
-    let more = before + 1;
-    if known {
-        return before;
-    }
-    more
-}
-
 // The kinds so far, with the record at the place: a DT of a kind that the table lacks counts, and is entered.
 fn count(file: &[u8], first: Line, place: usize, table: &mut [u16], kinds: usize) -> usize
     requires { Tabled first.number Kind (seen first file.now) table.old kinds × Stands first.number place file.now × (place < 65536) × (kinds < length table.old) }
@@ -63,7 +48,7 @@ fn count(file: &[u8], first: Line, place: usize, table: &mut [u16], kinds: usize
         return kinds;
     }
     let entry = enter(file, first, place, Key::Kind, table, kinds);
-    with_kind(entry.known, kinds)
+    entry.count
 }
 
 // The DT of the records have too many kinds. The pass ends at the first kind too many.
@@ -74,13 +59,11 @@ pub fn are_crowded(part: &[u8], first: Line) -> bool
     let records = part.len() / 850;
     let mut table = [0u16; MOST + 1];
     let mut kinds: usize = 0;
-    let mut place: usize = 0;
-    while place < records {
+    for place in 0..records {
         kinds = count(part, first, place, &mut table, kinds);
         if MOST < kinds {
             return true;
         }
-        place += 1;
     }
     false
 }

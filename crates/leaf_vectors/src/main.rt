@@ -2,27 +2,35 @@
 // in ASCII is ASCII.
 #![tactic(auto)]
 
-use record::codes::{Code, Letter};
-use record::{Field, Justification, Line, Order, layout};
+ghost use Rattle.std.specs.Prelude.{◌≡◌, ◌+◌, ◌≤◌};
+
+use loading::Parts;
+use record::codes::Code;
+use record::{Field, Justification, Line, codes, layout};
+use std::io;
+
+// The most records that are shown.
+const MOST: usize = 1000;
+
+// Positions 1 to 56, and 3 to 258.
+const FRONT: Field = Field {
+    start: 1,
+    width: 56,
+    justification: Justification::Fixed,
+};
+
+const PAGE: Field = Field {
+    start: 3,
+    width: 256,
+    justification: Justification::Fixed,
+};
 
 // The place of a code in the list of 004 section 1.2, from 1; 0 for no code.
-fn code_number(code: Code) -> u64 {
+fn code_number(code: Code) -> u8 {
     match code {
         Code::FileHeader => 1,
-        Code::Batch(letter) => match letter {
-            Letter::N => 2,
-            Letter::C => 3,
-            Letter::W => 4,
-            Letter::I => 5,
-            Letter::A => 6,
-        },
-        Code::Detail(letter) => match letter {
-            Letter::N => 7,
-            Letter::C => 8,
-            Letter::W => 9,
-            Letter::I => 10,
-            Letter::A => 11,
-        },
+        Code::Batch(letter) => 2 + letter as u8,
+        Code::Detail(letter) => 7 + letter as u8,
         Code::Party => 12,
         Code::Account => 13,
         Code::Procurement => 14,
@@ -32,149 +40,145 @@ fn code_number(code: Code) -> u64 {
     }
 }
 
-fn show(n: u64) {
-    io::print_decimal(1, n);
-    io::write_all(1, b" ");
-}
-
-fn show_bool(b: bool) {
-    if b {
-        show(1);
-    } else {
-        show(0);
-    }
-}
-
-fn show_order(order: Order) {
-    match order {
-        Order::Before => show(0),
-        Order::Same => show(1),
-        Order::After => show(2),
-    }
-}
-
-// The record's code, whether it is a detail's and whether a batch header's, and whether no byte of positions 1 to 56 is below hex 40.
-fn show_bytes(rec: &[u8; 850], line: Line) {
-    show(code_number(record::codes::code_of(record::codes::code_bytes(rec, line))));
-    show_bool(record::codes::has_detail(rec, line));
-    show_bool(record::codes::has_header(rec, line));
-    show_bool(record::written_valid(
-        rec,
-        line,
-        Field {
-            start: 1,
-            width: 56,
-            justification: Justification::Fixed,
-        },
-    ));
-}
-
-// Dates, a month and a routing number, in the fields of a batch header.
-fn show_dates(rec: &[u8; 850], line: Line) {
-    show_bool(calendar::date_ccyy_mm_dd(rec, line, layout::SUMMARY_DATE));
-    show_bool(calendar::date_yyyymmdd(rec, line, layout::CHECK_BATCH_CREATION_DATE));
-    show_bool(calendar::month_mmyy(rec, line, layout::CHECK_ACCOUNTING_MONTH_AND_YEAR));
-    show_bool(record::routing::field_routing(rec, line, layout::ORIGINATING_DI));
-}
-
-// An amount, and the order of the schedule number and the original schedule number.
-fn show_values(rec: &[u8; 850], line: Line) {
-    let amount = money::field_amount(rec, line, layout::SUMMARY_TOTAL_AMOUNT);
-    show(amount.high);
-    show(amount.low);
-    let mut original = [0u8; 14];
-    record::copy_field(rec, line, layout::ORIGINAL_SCHEDULE_NUMBER, &mut original);
-    show_order(record::field_order(rec, line, layout::SCHEDULE_NUMBER, &original));
-}
-
-fn show_byte(byte: u8) {
-    show(byte as u64);
+fn show(rt: &impl Print, answer: bool) -> io::Result<()> {
+    print!(rt; "{} ", u8::from(answer))
 }
 
 // The numbers of these bytes.
-fn show_each(bytes: &[u8]) {
-    let mut i: usize = 0;
-    while i < bytes.len() {
-        show_byte(bytes[i]);
-        i += 1;
+fn show_each(rt: &impl Print, bytes: &[u8]) -> io::Result<()> {
+    for byte in bytes {
+        print!(rt; "{byte} ")?;
+    }
+    Ok(())
+}
+
+// A record, and how it is read.
+#[derive(Clone, Copy)]
+struct Record {
+    bytes: [u8; 850],
+    line: Line,
+}
+
+impl Record {
+    fn new(bytes: [u8; 850]) -> Record {
+        let ascii = page::is_ascii(&bytes);
+        Record {
+            bytes,
+            line: Line { number: 1, ascii },
+        }
+    }
+
+    // Its code, whether it is a detail's and whether a batch header's, and whether no byte of positions 1 to 56 is below hex 40.
+    fn show_bytes(&self, rt: &impl Print) -> io::Result<()> {
+        let code = codes::code_of(codes::code_bytes(&self.bytes, self.line));
+        print!(rt; "{} ", code_number(code))?;
+        show(rt, codes::has_detail(&self.bytes, self.line))?;
+        show(rt, codes::has_header(&self.bytes, self.line))?;
+        show(rt, record::written_valid(&self.bytes, self.line, FRONT))
+    }
+
+    // Dates, a month and a routing number, in the fields of a batch header.
+    fn show_dates(&self, rt: &impl Print) -> io::Result<()> {
+        show(
+            rt,
+            calendar::date_ccyy_mm_dd(&self.bytes, self.line, layout::SUMMARY_DATE),
+        )?;
+        show(
+            rt,
+            calendar::date_yyyymmdd(&self.bytes, self.line, layout::CHECK_BATCH_CREATION_DATE),
+        )?;
+        show(
+            rt,
+            calendar::month_mmyy(
+                &self.bytes,
+                self.line,
+                layout::CHECK_ACCOUNTING_MONTH_AND_YEAR,
+            ),
+        )?;
+        show(
+            rt,
+            record::routing::field_routing(&self.bytes, self.line, layout::ORIGINATING_DI),
+        )
+    }
+
+    // An amount, and the order of the schedule number and the original schedule number: 0 before, 1 the same, 2 after.
+    fn show_values(&self, rt: &impl Print) -> io::Result<()> {
+        let amount = money::field_amount(&self.bytes, self.line, layout::SUMMARY_TOTAL_AMOUNT);
+        let original: [u8; 14] = record::field_array(
+            &self.bytes,
+            self.line,
+            layout::ORIGINAL_SCHEDULE_NUMBER,
+        );
+        let order = record::field_order(&self.bytes, self.line, layout::SCHEDULE_NUMBER, &original);
+        print!(rt; "{} {} {} ", amount.high, amount.low, order as i8 + 1)
+    }
+
+    // The numbers of the bytes of a field as it is held.
+    fn show_field<const WIDTH: usize>(&self, rt: &impl Print, field: Field) -> io::Result<()>
+        requires { (1 ≤ field.start) × (field.start + WIDTH ≤ 851) × (field.width ≡ WIDTH) }
+    {
+        show_each(
+            rt,
+            &record::field_array::<WIDTH>(&self.bytes, self.line, field),
+        )
+    }
+
+    // What text holds, field 7 and a number: the schedule number, the summary number and the first serial number.
+    fn show_held(&self, rt: &impl Print) -> io::Result<()> {
+        self.show_field::<14>(rt, layout::SCHEDULE_NUMBER)?;
+        self.show_field::<6>(rt, layout::SUMMARY_NUMBER)?;
+        self.show_field::<8>(rt, layout::CHECK_FIRST_SERIAL_NUMBER)
+    }
+
+    // Whether field 7 has no blank inside, and whether the first serial number is blank, and whether zeros.
+    fn show_tests(&self, rt: &impl Print) -> io::Result<()> {
+        show(
+            rt,
+            record::field_solid(&self.bytes, self.line, layout::SUMMARY_NUMBER),
+        )?;
+        show(
+            rt,
+            record::field_blank(&self.bytes, self.line, layout::CHECK_FIRST_SERIAL_NUMBER),
+        )?;
+        show(
+            rt,
+            record::field_zeros(&self.bytes, self.line, layout::CHECK_FIRST_SERIAL_NUMBER),
+        )
+    }
+
+    // The first serial number, or what is above them all where it is not digits.
+    fn show_number(&self, rt: &impl Print) -> io::Result<()> {
+        let field = layout::CHECK_FIRST_SERIAL_NUMBER;
+        if record::field_digits(&self.bytes, self.line, field) {
+            print!(rt; "{} ", record::field_number(&self.bytes, self.line, field))
+        } else {
+            print!(rt; "100000000 ")
+        }
+    }
+
+    fn show(&self, rt: &impl Print) -> io::Result<()> {
+        self.show_bytes(rt)?;
+        self.show_dates(rt)?;
+        self.show_values(rt)?;
+        self.show_held(rt)?;
+        self.show_tests(rt)?;
+        self.show_number(rt)?;
+        if self.line.ascii {
+            // What each byte is seen as.
+            self.show_field::<256>(rt, PAGE)?;
+        }
+        println!(rt;)
     }
 }
 
-// What text holds, field 7 and a number: the schedule number, the summary number and the first serial number.
-fn show_held(rec: &[u8; 850], line: Line) {
-    let mut schedule_number = [0u8; 14];
-    record::copy_field(rec, line, layout::SCHEDULE_NUMBER, &mut schedule_number);
-    show_each(&schedule_number);
-    let mut summary_number = [0u8; 6];
-    record::copy_field(rec, line, layout::SUMMARY_NUMBER, &mut summary_number);
-    show_each(&summary_number);
-    let mut serial_number = [0u8; 8];
-    record::copy_field(
-        rec,
-        line,
-        layout::CHECK_FIRST_SERIAL_NUMBER,
-        &mut serial_number,
-    );
-    show_each(&serial_number);
-}
-
-// Whether field 7 has no blank inside, and whether the first serial number is blank, and whether zeros.
-fn show_tests(rec: &[u8; 850], line: Line) {
-    show_bool(record::field_solid(rec, line, layout::SUMMARY_NUMBER));
-    show_bool(record::field_blank(rec, line, layout::CHECK_FIRST_SERIAL_NUMBER));
-    show_bool(record::field_zeros(rec, line, layout::CHECK_FIRST_SERIAL_NUMBER));
-}
-
-// The first serial number, or what is above them all where it is not digits.
-fn show_number(rec: &[u8; 850], line: Line) {
-    if record::field_digits(rec, line, layout::CHECK_FIRST_SERIAL_NUMBER) {
-        show(record::field_number(rec, line, layout::CHECK_FIRST_SERIAL_NUMBER));
-    } else {
-        show(100000000);
+fn show_records(rt: &impl Print) -> io::Result<()> {
+    for bytes in (Parts::<850> { most: MOST }) {
+        Record::new(bytes).show(rt)?;
     }
+    Ok(())
 }
 
-// What each byte of positions 3 to 258 is seen as.
-fn show_page(rec: &[u8; 850], line: Line) {
-    let mut page = [0u8; 256];
-    record::copy_field(
-        rec,
-        line,
-        Field {
-            start: 3,
-            width: 256,
-            justification: Justification::Fixed,
-        },
-        &mut page,
-    );
-    show_each(&page);
-}
-
-// Reads and shows one record, and answers whether there was one.
-fn show_next() -> bool {
-    let mut rec = [0u8; 850];
-    let n = io::read_full(0, &mut rec);
-    if n < 850 {
-        return false;
-    }
-    let ascii = page::is_ascii(&rec);
-    let line = Line { number: 1, ascii };
-    show_bytes(&rec, line);
-    show_dates(&rec, line);
-    show_values(&rec, line);
-    show_held(&rec, line);
-    show_tests(&rec, line);
-    show_number(&rec, line);
-    if ascii {
-        show_page(&rec, line);
-    }
-    io::write_all(1, b"\n");
-    true
-}
-
-fn main() {
-    let mut turns: u64 = 1000;
-    while turns > 0 && show_next() {
-        turns -= 1;
-    }
+// Its exit status doesn't tell whether standard output took the lines.
+fn main(rt: HostRuntime) {
+    let _ = show_records(&rt);
 }

@@ -1,13 +1,13 @@
 -- Amounts: what two words are worth, carries, comparison, and the amount that twenty digits write.
 -- Assumes nothing.
 use mathlib.Core.Path.{◌≡◌, refl, sym, ap, ◌∙◌}
-use mathlib.Core.Bool.{Bool, true, false, not}
+use mathlib.Core.Bool.{Bool, true, false, not, ◌&&◌}
 use mathlib.Core.List.{List, [], ◌∷◌}
 use Prim.Native.Nat.{ℕ, ◌+◌, ◌-◌, ◌*◌, ◌≤◌, ◌<◌}
 use native.Mathlib.Nat.{pow-le-pow_right, lt_of_lt_of_le}
 use native.Mathlib.Omega.{arith}
 use lib.Dec.{eqb, ltb}
-use borrow.Author.Tests.{not-false, eq-eqb, ne_eqb, eqb-true, eqb-false, lt-ltb, le-ltb, ltb-true, ltb-false}
+use borrow.Author.Tests.{not-false, eq-eqb, ne_eqb, eqb-true, eqb-false, lt-ltb, le-ltb}
 use lib.ListN.{length, take, drop, length-drop, take-append-drop}
 use lib.Seq.{slice, take_all, take-take}
 use Rattle.record.specs.declared.Field.{Field}
@@ -21,6 +21,9 @@ use Rattle.record.specs.Numeral.{numeral, numeral_from}
 use Rattle.record.proofs.Chain.{and_left, and_right}
 use Rattle.record.proofs.Held.{written_length, held_length, held_digits}
 use Rattle.record.proofs.Every.{digits_part, digits_halves}
+use Rattle.std.specs.Ordering.{nat_cmp, is_gt, is_some_and, partial_ordering_then}
+use Rattle.std.specs.Prelude.{Some}
+use Rattle.record.proofs.Orders.{Side, less, more, same, side}
 use Rattle.record.proofs.Numbers.{numeral_append, numeral_below}
 use Rattle.money.specs.declared.Amount.{Amount}
 use Rattle.money.specs.declared.Signed.{Signed}
@@ -64,35 +67,30 @@ module _ (a b : Amount) (f : Fit a b) where
   unfolding split worth Whole
   plus_carry h = amount_equal _ _ (omega (arith, f.left, f.right)) (omega (arith, f.left, f.right))
 
--- comparison
-module _ (a b : Amount) (u : Whole a) (v : Whole b) where
-  pub equal_low : a.high ≡ b.high → eqb a.low b.low ≡ eqb (worth a) (worth b)
-  unfolding worth
-  equal_low h = go (eqb a.low b.low) refl
-    where
-      go : (t : Bool) → eqb a.low b.low ≡ t → eqb a.low b.low ≡ eqb (worth a) (worth b)
-      go true e = e ∙ sym (eq-eqb (worth a) (worth b) (omega (arith, h, eqb-true a.low b.low e)))
-      go false e = e ∙ sym (ne_eqb (worth a) (worth b) (λ (q : worth a ≡ worth b). eqb-false a.low b.low e (omega (arith, h, q))))
-
-  pub equal_not : (a.high ≡ b.high → ⊥) → false ≡ eqb (worth a) (worth b)
+-- comparison: the high parts decide, and where they are the same the low ones
+module _ (a b : Amount) (u : Whole a) (v : Whole b) (r : Bool) where
+  pub equal_told : r ≡ (eqb a.high b.high && eqb a.low b.low) → r ≡ eqb (worth a) (worth b)
   unfolding worth Whole
-  equal_not h = sym (ne_eqb (worth a) (worth b) (λ (q : worth a ≡ worth b). h (omega (arith, u, v, q))))
-
-  pub above_low : a.high ≡ b.high → ltb b.low a.low ≡ ltb (worth b) (worth a)
-  unfolding worth
-  above_low h = go (ltb b.low a.low) refl
+  equal_told e = e ∙ go (eqb a.high b.high) refl (eqb a.low b.low) refl
     where
-      go : (t : Bool) → ltb b.low a.low ≡ t → ltb b.low a.low ≡ ltb (worth b) (worth a)
-      go true e = e ∙ sym (lt-ltb (worth b) (worth a) (omega (arith, h, ltb-true b.low a.low e)))
-      go false e = e ∙ sym (le-ltb (worth b) (worth a) (omega (arith, h, ltb-false b.low a.low e)))
+      go : (s : Bool) → eqb a.high b.high ≡ s → (t : Bool) → eqb a.low b.low ≡ t → (eqb a.high b.high && eqb a.low b.low) ≡ eqb (worth a) (worth b)
+      go true p true q = rw (p, q) (sym (eq-eqb (worth a) (worth b) (omega (arith, eqb-true a.high b.high p, eqb-true a.low b.low q))))
+      go true p false q = rw (p, q) (sym (ne_eqb (worth a) (worth b) (λ (w : worth a ≡ worth b). eqb-false a.low b.low q (omega (arith, eqb-true a.high b.high p, w)))))
+      go false p t q = rw p (sym (ne_eqb (worth a) (worth b) (λ (w : worth a ≡ worth b). eqb-false a.high b.high p (omega (arith, u, v, w)))))
 
-  pub above_high : (a.high ≡ b.high → ⊥) → ltb b.high a.high ≡ ltb (worth b) (worth a)
+  pub above_told : r ≡ is_some_and is_gt (partial_ordering_then (Some (nat_cmp a.high b.high)) (Some (nat_cmp a.low b.low))) → r ≡ ltb (worth b) (worth a)
   unfolding worth Whole
-  above_high h = go (ltb b.high a.high) refl
+  above_told e = e ∙ high (side a.high b.high)
     where
-      go : (t : Bool) → ltb b.high a.high ≡ t → ltb b.high a.high ≡ ltb (worth b) (worth a)
-      go true e = e ∙ sym (lt-ltb (worth b) (worth a) (omega (arith, u, v, ltb-true b.high a.high e)))
-      go false e = e ∙ sym (le-ltb (worth b) (worth a) (omega (arith, u, v, h, ltb-false b.high a.high e)))
+      low : a.high ≡ b.high → Side a.low b.low → is_gt (nat_cmp a.low b.low) ≡ ltb (worth b) (worth a)
+      low h (less k) = rw (lt-ltb a.low b.low k) (sym (le-ltb (worth b) (worth a) (omega (arith, h))))
+      low h (more k) = rw (le-ltb a.low b.low (omega arith), ne_eqb a.low b.low (λ q. absurd (omega (arith, q)))) (sym (lt-ltb (worth b) (worth a) (omega (arith, h))))
+      low h (same k j) = rw (le-ltb a.low b.low j, eq-eqb a.low b.low (omega arith)) (sym (le-ltb (worth b) (worth a) (omega (arith, h))))
+
+      high : Side a.high b.high → is_some_and is_gt (partial_ordering_then (Some (nat_cmp a.high b.high)) (Some (nat_cmp a.low b.low))) ≡ ltb (worth b) (worth a)
+      high (less k) = rw (lt-ltb a.high b.high k) (sym (le-ltb (worth b) (worth a) (omega (arith, u, v))))
+      high (more k) = rw (le-ltb a.high b.high (omega arith), ne_eqb a.high b.high (λ q. absurd (omega (arith, q)))) (sym (lt-ltb (worth b) (worth a) (omega (arith, u, v))))
+      high (same k j) = rw (le-ltb a.high b.high j, eq-eqb a.high b.high (omega arith)) (low (omega arith) (side a.low b.low))
 
 -- twenty digits, read as two numbers of ten
 halves : (xs : List ℕ) → length xs ≡ 20 → digits xs ≡ true

@@ -8,7 +8,7 @@ ghost use Rattle.money.specs.Money.{worth, split, cents, Whole, Fit, entered, co
 use record::{Field, Justification, Line};
 
 // high * 10^10 + low cents.
-#[derive(Clone, Copy)]
+#[derive(Clone, Copy, PartialEq, Eq, PartialOrd, Ord)]
 pub struct Amount {
     pub high: u64,
     pub low: u64,
@@ -35,8 +35,8 @@ fn moved_amount(rec: &[u8], line: Line, field: Field) -> Amount
 }
 
 // The amount in a field of twenty digits; zero where it is not twenty digits. Most amounts have zeros in their upper half, which count nothing. The
-// widths are written out so that the loops are unrolled. What has to be moved is lent anew, and at two places, so that it is a function of its own
-// and nothing of it is kept on the stack where nothing is moved.
+// widths are written out so that the loops are unrolled. What has to be moved is a function of its own, so that nothing of it is kept on the stack
+// where nothing is moved.
 pub fn field_amount(rec: &[u8], line: Line, field: Field) -> Amount
     requires { Has rec.now field × (field.width ≡ 20) }
     ensures { result ≡ split (cents (held (seen line rec.now) field)) }
@@ -46,42 +46,18 @@ pub fn field_amount(rec: &[u8], line: Line, field: Field) -> Amount
         width: 10,
         justification: Justification::Fixed,
     };
-    if record::field_zeros(rec, line, upper) {
-        if record::written_digits(rec, line, field, 10, 20) {
-            let low = record::written_number(rec, line, field, 10, 20);
-            return Amount { high: 0, low };
-        }
+    if record::field_zeros(rec, line, upper) && record::written_digits(rec, line, field, 10, 20) {
+        let low = record::written_number(rec, line, field, 10, 20);
+        return Amount { high: 0, low };
     }
-    let number = line.number;
-    let ascii = line.ascii;
-    let start = field.start;
-    let width = field.width;
-    let justification = field.justification;
-    if !record::written_digits(rec, line, field, 0, 10) {
-        return moved_amount(
-            &rec[..],
-            Line { number, ascii },
-            Field {
-                start,
-                width,
-                justification,
-            },
-        );
+    if record::written_digits(rec, line, field, 0, 10)
+        && record::written_digits(rec, line, field, 10, 20)
+    {
+        let high = record::written_number(rec, line, field, 0, 10);
+        let low = record::written_number(rec, line, field, 10, 20);
+        return Amount { high, low };
     }
-    if !record::written_digits(rec, line, field, 10, 20) {
-        return moved_amount(
-            &rec[..],
-            Line { number, ascii },
-            Field {
-                start,
-                width,
-                justification,
-            },
-        );
-    }
-    let high = record::written_number(rec, line, field, 0, 10);
-    let low = record::written_number(rec, line, field, 10, 20);
-    Amount { high, low }
+    moved_amount(rec, line, field)
 }
 
 // The exact sum of two amounts.
@@ -91,14 +67,12 @@ pub fn plus(a: Amount, b: Amount) -> Amount
 {
     let high = a.high + b.high;
     let low = a.low + b.low;
-    if low < 10000000000 {
+    if low < 10_000_000_000 {
         return Amount { high, low };
     }
-    let carried = high + 1;
-    let rest = low - 10000000000;
     Amount {
-        high: carried,
-        low: rest,
+        high: high + 1,
+        low: low - 10_000_000_000,
     }
 }
 
@@ -107,10 +81,7 @@ pub fn is_equal(a: Amount, b: Amount) -> bool
     requires { Whole a × Whole b }
     ensures { result ≡ eqb (worth a) (worth b) }
 {
-    if a.high == b.high {
-        return a.low == b.low;
-    }
-    false
+    a == b
 }
 
 // The first amount is worth more than the second.
@@ -118,10 +89,7 @@ pub fn is_above(a: Amount, b: Amount) -> bool
     requires { Whole a × Whole b }
     ensures { result ≡ ltb (worth b) (worth a) }
 {
-    if a.high == b.high {
-        return b.low < a.low;
-    }
-    b.high < a.high
+    a > b
 }
 
 // The signed sum with one amount more.
@@ -129,17 +97,15 @@ pub fn enter(sum: Signed, negative: bool, a: Amount) -> Signed
     requires { Fit sum.positive a × Fit sum.negative a }
     ensures { result ≡ entered sum negative (worth a) }
 {
-    let before = sum.positive;
-    let against = sum.negative;
     if negative {
         return Signed {
-            positive: before,
-            negative: plus(against, a),
+            negative: plus(sum.negative, a),
+            ..sum
         };
     }
     Signed {
-        positive: plus(before, a),
-        negative: against,
+        positive: plus(sum.positive, a),
+        ..sum
     }
 }
 
@@ -148,7 +114,5 @@ pub fn comes_to(sum: Signed, a: Amount) -> bool
     requires { Whole sum.positive × Fit a sum.negative }
     ensures { result ≡ comes_to sum (worth a) }
 {
-    let positive = sum.positive;
-    let negative = sum.negative;
-    is_equal(positive, plus(a, negative))
+    is_equal(sum.positive, plus(a, sum.negative))
 }

@@ -8,14 +8,14 @@ use Prim.Native.Nat.{ℕ, zero, suc, ◌+◌, ◌<◌, ◌≤◌}
 use native.Mathlib.Omega.{arith}
 use lib.ListN.{length, take, drop, get_or}
 use Rattle.record.specs.Choice.{choose}
-use Rattle.nesting.specs.declared.Verdict.{Verdict}
-use Rattle.nesting.specs.declared.Verdict.TheVariants.{Legal, Refused}
+use Rattle.nesting.specs.declared.Counts.{Counts}
+use Rattle.std.specs.Prelude.{Result, Ok, Err}
 use Rattle.nesting.specs.declared.reader.Place.TheVariants.{Start, FileClosed}
 use Rattle.nesting.specs.declared.reader.State.{State}
 use Rattle.nesting.specs.Division.{Record, All, Whole, Division, DivisionOf, Divided, Begins, payment_count}
 use Rattle.nesting.specs.Promise.{Nested}
 use Rattle.nesting.specs.Promise.Nested.{legal, refused}
-use Rattle.nesting.specs.Reader.{is_at, follows, after, start, read_on}
+use Rattle.nesting.specs.Reader.{is_at, follows, after, start, counted, read_on}
 use Rattle.nesting.proofs.Coding.{at_place}
 use Rattle.nesting.proofs.Rest.{Rest, at, from}
 use Rattle.nesting.proofs.Steps.{move, here, fitting}
@@ -50,9 +50,9 @@ record Stopped (s : State) (rs : List Record) (k : ℕ) : Type 0 where
   before : (i : ℕ) → i < k → Leads s (take i rs)
   stop : k ≤ length rs → Leads s (take k rs) → ⊥
 
-data Said (s : State) (n : ℕ) (rs : List Record) : Verdict → Type 0 where
-  ends : {B P : ℕ} → Rest s B P rs → Said s n rs (Legal B P)
-  stops : (k : ℕ) → Stopped s rs k → Said s n rs (Refused (n + k))
+data Said (s : State) (n : ℕ) (rs : List Record) : Result Counts ℕ → Type 0 where
+  ends : {B P : ℕ} → Rest s B P rs → Said s n rs (Ok (record { batches = B; payments = P }))
+  stops : (k : ℕ) → Stopped s rs k → Said s n rs (Err (n + k))
 
 -- no record fits, or only the end is lacking
 stopped_here : (s : State) (rs : List Record) → Sane s → ((B P : ℕ) (more : List Record) → Rest s B P (take 1 rs ++ more) → 1 ≤ length rs → ⊥)
@@ -110,18 +110,18 @@ said : (s : State) (n : ℕ) (rs : List Record) → Sane s → All Whole rs → 
 unfolding read_on choose
 said s n [] h w = go (is_at s FileClosed) refl
   where
-    go : (t : Bool) → is_at s FileClosed ≡ t → Said s n [] (choose (is_at s FileClosed) (Legal s.batches s.payments) (Refused (n + 1)))
+    go : (t : Bool) → is_at s FileClosed ≡ t → Said s n [] (choose (is_at s FileClosed) (Ok (counted s)) (Err (n + 1)))
     go true e = rw e (ends (at s _ _ [] FileClosed (at_place s FileClosed e) (record { whole = refl; counted = refl; paid = refl })))
     go false e =
         rw e (stops 1 (stopped_here s [] h (λ B P more l m. omega arith) (λ B P l. true≢false (sym (ended s B P l) ∙ e))))
 said s n (r ∷ rs) h w = go (follows s r) refl (λ e. said (after s r) (n + 1) rs (sane_after s r w.0 (move s r e) h) w.1)
   where
-    on : follows s r ≡ true → (v : Verdict) → Said (after s r) (n + 1) rs v → Said s n (r ∷ rs) v
-    on e (Legal B P) (ends l) = ends (prepend s r rs B P (move s r e) l)
-    on e (Refused m) (stops k t) = subst (λ (j : ℕ). Said s n (r ∷ rs) (Refused j)) (omega arith) (stops (suc k) (stopped_later s r rs k h e t))
+    on : follows s r ≡ true → (v : Result Counts ℕ) → Said (after s r) (n + 1) rs v → Said s n (r ∷ rs) v
+    on e (Ok c) (ends l) = ends (prepend s r rs c.batches c.payments (move s r e) l)
+    on e (Err m) (stops k t) = subst (λ (j : ℕ). Said s n (r ∷ rs) (Err j)) (omega arith) (stops (suc k) (stopped_later s r rs k h e t))
 
     go : (t : Bool) → follows s r ≡ t → (follows s r ≡ true → Said (after s r) (n + 1) rs (read_on (after s r) (n + 1) rs))
-        → Said s n (r ∷ rs) (choose (follows s r) (read_on (after s r) (n + 1) rs) (Refused (n + 1)))
+        → Said s n (r ∷ rs) (choose (follows s r) (read_on (after s r) (n + 1) rs) (Err (n + 1)))
     go true e ih = rw e (on e _ (ih e))
     go false e ih =
         rw e
@@ -151,20 +151,20 @@ leads rs b =
       left = undivided _ b.divided.0 b.divided.1;
     }
 
-counted : (rs : List Record) (d : Division) (B P : ℕ) → DivisionOf rs d → B ≡ length d.batches → P ≡ payment_count d.batches → Nested rs (Legal B P)
-counted rs d B P h b p = rw (b, p) (legal d h)
+told : (rs : List Record) (d : Division) (B P : ℕ) → DivisionOf rs d → B ≡ length d.batches → P ≡ payment_count d.batches → Nested rs (Ok (record { batches = B; payments = P }))
+told rs d B P h b p = rw (b, p) (legal d h)
 
 -- the reader's answer is the promised one
 pub answer : (rs : List Record) → All Whole rs → Nested rs (read_on start 0 rs)
 unfolding start
 answer rs w = go (read_on start 0 rs) (said start 0 rs sane_start w)
   where
-    go : (v : Verdict) → Said start 0 rs v → Nested rs v
-    go (Legal B P) (ends l) =
-        let d = from start B P rs Start refl l in
-        counted rs d.division B P d.divides (omega (arith, d.counted)) (omega (arith, d.paid))
-    go (Refused m) (stops k t) =
-        subst (λ (j : ℕ). Nested rs (Refused j)) (omega arith)
+    go : (v : Result Counts ℕ) → Said start 0 rs v → Nested rs v
+    go (Ok c) (ends l) =
+        let d = from start c.batches c.payments rs Start refl l in
+        told rs d.division _ _ d.divides (omega (arith, d.counted)) (omega (arith, d.paid))
+    go (Err m) (stops k t) =
+        subst (λ (j : ℕ). Nested rs (Err j)) (omega arith)
         (refused k
         (record {
           none = λ d. t.none _ _ (undivided rs d.0 d.1);

@@ -2,19 +2,28 @@
 -- Assumes nothing.
 use mathlib.Core.Path.{◌≡◌, refl, sym, ◌∙◌, ap}
 use mathlib.Core.Logic.{◌⊎◌, inl, inr}
-use mathlib.Core.Bool.{Bool, true, false, true≢false}
+use mathlib.Core.Bool.{Bool, true, false, true≢false, ◌&&◌}
+use mathlib.Core.List.{List, [], ◌∷◌}
 use Prim.Native.Nat.{ℕ, zero, suc, ◌<◌}
 use native.Mathlib.Omega.{arith}
 use lib.ListN.{length}
-use borrow.Author.Tests.{eqb-true}
+use lib.Pointwise.{pointwise}
+use lib.Dec.{eqb}
+use borrow.Author.Tests.{eqb-true, eqb-false}
 use Rattle.record.specs.declared.codes.Letter.{Letter}
 use Rattle.record.specs.declared.codes.Letter.TheVariants.{N, C, W, I, A}
 use Rattle.record.specs.declared.codes.Code.{Code}
 use Rattle.record.specs.declared.codes.Code.TheVariants.{FileHeader, Batch, Detail, Party, Account, Procurement, BatchTrailer, FileTrailer, Unknown}
+use Rattle.record.specs.Choice.{◌and◌}
 use Rattle.record.specs.Fields.{record_code}
+use Rattle.record.specs.Tests.{alike}
 use Rattle.record.specs.Value.{held}
 use Rattle.record.specs.Codes.{letter_byte, code_bytes, code_in, codes, code_of, letter_in}
 use Rattle.record.proofs.CodeList.{codes_apart, code_bytes_holds}
+use denote.Enum.Bare.{sameb, true_same, false_same}
+use Rattle.record.specs.contracts.codes.Letter as Letter-type
+use denote.Enum.Declared.{tag_of}
+use Rattle.nesting.specs.contracts.reader.Place as Place-type
 use Rattle.nesting.specs.declared.reader.Place.{Place}
 use Rattle.nesting.specs.declared.reader.Place.TheVariants.{Start, FileOpen, BatchOpen, PaymentOpen, BatchClosed, FileClosed}
 use Rattle.nesting.specs.declared.reader.State.{State}
@@ -92,6 +101,19 @@ same_letter_holds l m e =
     let h : code_bytes (Batch l) ≡ code_bytes (Batch m) = ap batch_code (eqb-true (letter_byte l) (letter_byte m) e) in
     ap letter_in (sym (codes_apart (Batch l)) ∙ ap (code_in codes) h ∙ codes_apart (Batch m))
 
+-- the derived test of two letters is the test of their bytes
+pub same_letters : (l m : Letter) → sameb Letter-type.the_type l m ≡ same_letter l m
+unfolding same_letter
+same_letters l m = go (same_letter l m) refl
+  where
+    go : (b : Bool) → same_letter l m ≡ b → sameb Letter-type.the_type l m ≡ b
+    go true e = true_same Letter-type.the_type l m (same_letter_holds l m e)
+    go false e = false_same Letter-type.the_type tt l m (λ q. eqb-false (letter_byte l) (letter_byte m) e (ap letter_byte q))
+
+pub is_check_letter : (l : Letter) → sameb Letter-type.the_type l C ≡ is_check l
+unfolding is_check same_letter letter_byte
+is_check_letter l = same_letters l C
+
 -- a batch of a check letter is a check batch, and no other is
 abbrev pub Beside : Bool → Record → Type 0
 Beside true r = Coded BC r
@@ -104,6 +126,31 @@ beside l r e = go (is_check l) refl
     go : (t : Bool) → is_check l ≡ t → Beside t r
     go true k = to_bytes (Batch l) r refl e ∙ ap batch_code (eqb-true (letter_byte l) 0xC3 k)
     go false k = λ h. true≢false (sym (ap (λ (c : Code). is_check (letter_in c)) (sym e ∙ of_bytes (Batch C) r h)) ∙ k)
+
+-- the derived test of two places is the test of their numbers
+place_tag : (p : Place) → tag_of Place-type.the_type p ≡ place_number p
+unfolding place_number
+place_tag Start = refl
+place_tag FileOpen = refl
+place_tag BatchOpen = refl
+place_tag PaymentOpen = refl
+place_tag BatchClosed = refl
+place_tag FileClosed = refl
+
+pub same_place : (p q : Place) → sameb Place-type.the_type p q ≡ eqb (place_number p) (place_number q)
+same_place p q = rw (place_tag p, place_tag q)
+
+-- the library's test of two arrays is the test over the full width
+pub same_bytes : (xs ys : List ℕ) → pointwise eqb xs ys ≡ alike xs ys
+unfolding alike ◌and◌
+same_bytes [] [] = refl
+same_bytes [] (y ∷ ys) = refl
+same_bytes (x ∷ xs) [] = refl
+same_bytes (x ∷ xs) (y ∷ ys) = rw (same_bytes xs ys) (go (eqb x y))
+  where
+    go : (b : Bool) → (b && alike xs ys) ≡ (b and alike xs ys)
+    go true = refl
+    go false = refl
 
 place_of : ℕ → Place
 place_of zero = Start

@@ -3,7 +3,7 @@
 use mathlib.Core.Path.{◌≡◌, refl, subst}
 use mathlib.Core.Bool.{Bool, true}
 use mathlib.Core.List.{List, [], ◌∷◌, map}
-use Prim.Native.Nat.{◌<◌}
+use Prim.Native.Nat.{ℕ, ◌<◌}
 use native.Mathlib.Omega.{arith}
 use lib.ListN.{replicate}
 use Rattle.record.specs.declared.codes.Letter.TheVariants.{N, W}
@@ -15,8 +15,8 @@ use Rattle.record.specs.Value.{written, held}
 use Rattle.record.specs.Tests.{alike}
 use Rattle.record.specs.Codes.{letter_byte, code_bytes, code_in, code_of}
 use Rattle.record.proofs.Chain.{and_left, and_right}
-use Rattle.nesting.specs.declared.Verdict.{Verdict}
-use Rattle.nesting.specs.declared.Verdict.TheVariants.{Legal, Refused}
+use Rattle.nesting.specs.declared.Counts.{Counts}
+use Rattle.std.specs.Prelude.{Result, Ok, Err}
 use Rattle.nesting.specs.Division.{Record, All, Whole}
 use Rattle.nesting.specs.Promise.{Nested}
 use Rattle.nesting.specs.Reader.{place_number, is_at, same_letter, is_check, besides, complete, owns, opens_batch, opens_payment, takes_party, takes_account, takes_procurement, fits, start, moved, in_batch, in_payment, taken, next, follows, after, read_on}
@@ -27,16 +27,16 @@ use Rattle.nesting.proofs.Answer.{answer}
 -- the codes of a file's records, in order, and the answer
 pub record Example : Type 0 where
   pub codes : List Code
-  pub answer : Verdict
+  pub answer : Result Counts ℕ
 
 -- document 01: FH BN DN DX BT FT; FH BN DN BT; FH BN DW; FH BN DN DX; FH FT
 unfoldable pub examples : List Example
 examples =
-    record { codes = FileHeader ∷ Batch N ∷ Detail N ∷ Party ∷ BatchTrailer ∷ FileTrailer ∷ []; answer = Legal 1 1 }
-    ∷ record { codes = FileHeader ∷ Batch N ∷ Detail N ∷ BatchTrailer ∷ []; answer = Refused 4 }
-    ∷ record { codes = FileHeader ∷ Batch N ∷ Detail W ∷ []; answer = Refused 3 }
-    ∷ record { codes = FileHeader ∷ Batch N ∷ Detail N ∷ Party ∷ []; answer = Refused 5 }
-    ∷ record { codes = FileHeader ∷ FileTrailer ∷ []; answer = Refused 2 }
+    record { codes = FileHeader ∷ Batch N ∷ Detail N ∷ Party ∷ BatchTrailer ∷ FileTrailer ∷ []; answer = Ok (record { batches = 1; payments = 1 }) }
+    ∷ record { codes = FileHeader ∷ Batch N ∷ Detail N ∷ BatchTrailer ∷ []; answer = Err 4 }
+    ∷ record { codes = FileHeader ∷ Batch N ∷ Detail W ∷ []; answer = Err 3 }
+    ∷ record { codes = FileHeader ∷ Batch N ∷ Detail N ∷ Party ∷ []; answer = Err 5 }
+    ∷ record { codes = FileHeader ∷ FileTrailer ∷ []; answer = Err 2 }
     ∷ []
 
 -- records of these codes, one ID throughout

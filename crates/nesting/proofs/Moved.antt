@@ -10,8 +10,8 @@ use Rattle.record.specs.Codes.{code_of}
 use Rattle.record.specs.Fields.{payment_id}
 use Rattle.record.specs.Value.{held}
 use Rattle.nesting.specs.declared.reader.State.{State}
-use Rattle.nesting.specs.declared.Verdict.{Verdict}
-use Rattle.nesting.specs.declared.Verdict.TheVariants.{Refused}
+use Rattle.nesting.specs.declared.Counts.{Counts}
+use Rattle.std.specs.Prelude.{Result, Err}
 use Rattle.nesting.specs.Division.{Record, All, Whole}
 use Rattle.nesting.specs.Promise.{Nested}
 use Rattle.nesting.specs.Reader.{fits, next, start, follows, after, read_on}
@@ -45,10 +45,10 @@ moved_read s n [] [] h = refl
 moved_read s n [] (q ∷ qs) h = absurd h
 moved_read s n (r ∷ rs) [] h = absurd h
 moved_read s n (r ∷ rs) (q ∷ qs) h =
-    ap (λ (t : Bool). choose t (read_on (after s r) (n + 1) rs) (Refused (n + 1))) (same_follows s r q h.0)
-    ∙ ap (λ (v : Verdict). choose (follows s q) v (Refused (n + 1))) (ap (λ (t : State). read_on t (n + 1) rs) (same_after s r q h.0) ∙ moved_read (after s q) (n + 1) rs qs h.1)
+    ap (λ (t : Bool). choose t (read_on (after s r) (n + 1) rs) (Err (n + 1))) (same_follows s r q h.0)
+    ∙ ap (λ (v : Result Counts ℕ). choose (follows s q) v (Err (n + 1))) (ap (λ (t : State). read_on t (n + 1) rs) (same_after s r q h.0) ∙ moved_read (after s q) (n + 1) rs qs h.1)
 
 -- two files of such records draw one answer: both have a legal division, with as many batches and payments, or both are refused at one record
-pub moved_nesting : (rs qs : List Record) → All Whole rs → All Whole qs → AllSame rs qs → (v w : Verdict) → Nested rs v → Nested qs w → v ≡ w
+pub moved_nesting : (rs qs : List Record) → All Whole rs → All Whole qs → AllSame rs qs → (v w : Result Counts ℕ) → Nested rs v → Nested qs w → v ≡ w
 moved_nesting rs qs a b h v w n m =
     one_answer rs v (read_on start 0 rs) n (answer rs a) ∙ moved_read start 0 rs qs h ∙ sym (one_answer qs w (read_on start 0 qs) m (answer qs b))

@@ -8,18 +8,18 @@ use native.Mathlib.Omega.{arith}
 use lib.Dec.{ltb}
 use borrow.Author.Tests.{ltb-true, ltb-false}
 use lib.ListN.{length, take}
-use Rattle.nesting.specs.declared.Verdict.{Verdict}
-use Rattle.nesting.specs.declared.Verdict.TheVariants.{Legal, Refused}
-use Rattle.nesting.specs.Division.{Record, Division, Divided, Begins, payment_count}
-use Rattle.nesting.specs.Promise.{RefusedAt, Nested}
+use Rattle.nesting.specs.declared.Counts.{Counts}
+use Rattle.std.specs.Prelude.{Result, Ok, Err}
+use Rattle.nesting.specs.Division.{Record, Division, Divided, Begins}
+use Rattle.nesting.specs.Promise.{counts, RefusedAt, Nested}
 use Rattle.nesting.specs.Promise.Nested.{legal, refused}
 use Rattle.nesting.proofs.OneDivision.{one_division}
 
 -- refused exactly when no legal division exists
-pub refused_undivided : (rs : List Record) (k : ℕ) → Nested rs (Refused k) → Divided rs → ⊥
+pub refused_undivided : (rs : List Record) (k : ℕ) → Nested rs (Err k) → Divided rs → ⊥
 refused_undivided rs k (refused j t) = t.none
 
-pub undivided_refused : (rs : List Record) (v : Verdict) → Nested rs v → (Divided rs → ⊥) → (k : ℕ) × (v ≡ Refused k)
+pub undivided_refused : (rs : List Record) (v : Result Counts ℕ) → Nested rs v → (Divided rs → ⊥) → (k : ℕ) × (v ≡ Err k)
 undivided_refused rs v (legal d p) n = absurd (n (d, p))
 undivided_refused rs v (refused k t) n = (k, refl)
 
@@ -40,8 +40,8 @@ one_named rs k j t u = go (ltb (length rs) j) refl
     go false e = first_named rs k t j (u.here (ltb-false (length rs) j e))
 
 -- one answer only
-pub one_answer : (rs : List Record) (v w : Verdict) → Nested rs v → Nested rs w → v ≡ w
-one_answer rs v w (legal d p) (legal e q) = ap (λ (x : Division). Legal (length x.batches) (payment_count x.batches)) (one_division rs d e p q)
+pub one_answer : (rs : List Record) (v w : Result Counts ℕ) → Nested rs v → Nested rs w → v ≡ w
+one_answer rs v w (legal d p) (legal e q) = ap (λ (x : Division). Ok (counts x)) (one_division rs d e p q)
 one_answer rs v w (legal d p) (refused k t) = absurd (t.none (d, p))
 one_answer rs v w (refused k t) (legal d p) = absurd (t.none (d, p))
-one_answer rs v w (refused k t) (refused j u) = ap Refused (omega (arith, one_named rs k j t u, one_named rs j k u t))
+one_answer rs v w (refused k t) (refused j u) = ap Err (omega (arith, one_named rs k j t u, one_named rs j k u t))

@@ -1,5 +1,5 @@
 -- How the reader goes from record to record. No promise about a file rests on it: the proofs tie it to Division.antt.
-use Rattle.std.specs.Prelude.{Bool, true, false, not, List, [], ◌∷◌, ℕ, ◌+◌, eqb, ltb, replicate}
+use Rattle.std.specs.Prelude.{Bool, true, false, not, List, [], ◌∷◌, ℕ, ◌+◌, eqb, ltb, replicate, Result, Ok, Err}
 use Rattle.record.specs.declared.codes.Letter.{Letter}
 use Rattle.record.specs.declared.codes.Letter.TheVariants.{N}
 use Rattle.record.specs.declared.codes.Code.{Code}
@@ -9,8 +9,7 @@ use Rattle.record.specs.Fields.{payment_id}
 use Rattle.record.specs.Value.{held}
 use Rattle.record.specs.Tests.{alike}
 use Rattle.record.specs.Codes.{letter_byte, code_of}
-use Rattle.nesting.specs.declared.Verdict.{Verdict}
-use Rattle.nesting.specs.declared.Verdict.TheVariants.{Legal, Refused}
+use Rattle.nesting.specs.declared.Counts.{Counts}
 use Rattle.nesting.specs.declared.reader.Place.{Place}
 use Rattle.nesting.specs.declared.reader.Place.TheVariants.{Start, FileOpen, BatchOpen, PaymentOpen, BatchClosed, FileClosed}
 use Rattle.nesting.specs.declared.reader.State.{State}
@@ -156,7 +155,11 @@ follows s r = fits s (code_of r) (held r payment_id)
 unfoldable pub after : State → Record → State
 after s r = next s (code_of r) (held r payment_id)
 
+-- the batches and the payments so far
+abbrev pub counted : State → Counts
+counted s = record { batches = s.batches; payments = s.payments }
+
 -- what the reader says of the records that are left, n having been read
-unfoldable pub read_on : State → ℕ → List Record → Verdict
-read_on s n [] = choose (is_at s FileClosed) (Legal s.batches s.payments) (Refused (n + 1))
-read_on s n (r ∷ rs) = choose (follows s r) (read_on (after s r) (n + 1) rs) (Refused (n + 1))
+unfoldable pub read_on : State → ℕ → List Record → Result Counts ℕ
+read_on s n [] = choose (is_at s FileClosed) (Ok (counted s)) (Err (n + 1))
+read_on s n (r ∷ rs) = choose (follows s r) (read_on (after s r) (n + 1) rs) (Err (n + 1))

@@ -3,9 +3,9 @@
 
 pub mod reader;
 
-// Legal with the number of batches and of payments, or refused at the record with this number.
-#[derive(Clone, Copy)]
-pub enum Verdict {
-    Legal(usize, usize),
-    Refused(usize),
+// What a legal file has. Of the records of a file an answer is these counts, or else the number of the record at fault.
+#[derive(Clone, Copy, Debug, PartialEq, Eq)]
+pub struct Counts {
+    pub batches: usize,
+    pub payments: usize,
 }

@@ -2,85 +2,65 @@
 // little-endian bytes; of each record only the code and the Payment ID are sent, 22 bytes, and the rest stays blank.
 #![tactic(auto)]
 
-ghost use Rattle.std.specs.Prelude.{◌≤◌, ◌<◌};
+ghost use Rattle.std.specs.Prelude.{◌≤◌, length};
 ghost use Rattle.nesting.specs.Records.{Cuttable};
 
-use nesting::Verdict;
+use loading::Parts;
+use std::io;
 
-fn show(n: usize) {
-    io::write_all(1, b" ");
-    io::print_decimal(1, n as u64);
-}
+// The most files that are shown, and the most records of one.
+const MOST: usize = 10000;
 
-fn show_file(file: &[u8])
+const RECORDS: usize = 200;
+
+fn show_file(rt: &impl Print, file: &[u8]) -> io::Result<()>
     requires { Cuttable file.now }
 {
-    let found = survey::survey_file(file, false);
-    let nested = found.nested;
-    match nested {
-        Verdict::Legal(batches, payments) => {
-            io::write_all(1, b"legal");
-            show(batches);
-            show(payments);
+    match survey::survey_file(file, false) {
+        Ok(found) => println!(rt; "legal {} {}", found.counts.batches, found.counts.payments),
+        Err(number) => println!(rt; "refused {number}"),
+    }
+}
+
+// Reads a record's code and ID.
+fn read_record(record: &mut [u8; 850]) {
+    loading::read_input(&mut record[..22]);
+}
+
+fn read_records(records: &mut [[u8; 850]]) {
+    for record in records {
+        read_record(record);
+    }
+}
+
+fn show_records(rt: &impl Print, records: &[[u8; 850]]) -> io::Result<()>
+    requires { length records.now ≤ 200 }
+{
+    show_file(rt, records.as_flattened())
+}
+
+// Reads a file of so many records, and shows it.
+fn show_next(rt: &impl Print, count: usize) -> io::Result<()>
+    requires { count ≤ 200 }
+{
+    let mut space = [[0x40; 850]; RECORDS];
+    read_records(&mut space[..count]);
+    show_records(rt, &space[..count])
+}
+
+// The first file that is too long ends the list.
+fn show_files(rt: &impl Print) -> io::Result<()> {
+    for head in (Parts::<2> { most: MOST }) {
+        let count = numbers::read(&head) as usize;
+        if count > RECORDS {
+            break;
         }
-        Verdict::Refused(number) => {
-            io::write_all(1, b"refused");
-            show(number);
-        }
+        show_next(rt, count)?;
     }
-    io::write_all(1, b"\n");
+    Ok(())
 }
 
-// Reads a record's code and ID to its place.
-fn read_record(space: &mut [u8], at: usize)
-    requires { at ≤ 170000 }
-{
-    let end = at + 22;
-    if end <= space.len() {
-        io::read_full(0, &mut space[at..end]);
-    }
-}
-
-fn read_records(space: &mut [u8], records: usize)
-    requires { records ≤ 200 }
-{
-    let mut at: usize = 0;
-    let mut left = records;
-    while left > 0 {
-        read_record(space, at);
-        at += 850;
-        left -= 1;
-    }
-}
-
-fn show_records(space: &[u8], records: usize)
-    requires { records ≤ 200 }
-{
-    let size = records * 850;
-    if size <= space.len() {
-        show_file(&space[..size]);
-    }
-}
-
-// Reads and shows one file, and answers whether there was one.
-fn show_next() -> bool {
-    let mut head = [0u8; 2];
-    if io::read_full(0, &mut head) < 2 {
-        return false;
-    }
-    let records = numbers::read(&head) as usize;
-    if records > 200 {
-        return false;
-    }
-    let mut space = [0x40u8; 170000];
-    read_records(&mut space, records);
-    show_records(&space, records);
-    true
-}
-
-fn main() {
-    let mut turns: u64 = 10000;
-    while turns > 0 && show_next() {
-        turns -= 1;
-    }
+// Its exit status doesn't tell whether standard output took the lines.
+fn main(rt: HostRuntime) {
+    let _ = show_files(&rt);
 }

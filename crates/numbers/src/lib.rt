@@ -8,7 +8,7 @@ ghost use Rattle.numbers.specs.Numbers.{little, number_in};
 pub fn wide(byte: u8) -> u64
     ensures { (result ≡ byte) × (result < 256) }
 {
-    byte as u64
+    u64::from(byte)
 }
 
 // The number that the part's bytes write, the least first.
@@ -17,10 +17,9 @@ pub fn read(part: &[u8]) -> u64
     ensures { (result ≡ number_in part.now) × (result < 256 ^ length part.now) }
 {
     let mut number: u64 = 0;
-    let mut i = part.len();
-    while i > 0 {
-        i -= 1;
-        number = number * 256 + wide(part[i]);
+    for byte in part.iter().rev() {
+        let least = wide(*byte);
+        number = number * 256 + least;
     }
     number
 }
@@ -30,10 +29,8 @@ pub fn write(part: &mut [u8], number: u64)
     ensures { part.new ≡ little (length part.old) number }
 {
     let mut left = number;
-    let mut i: usize = 0;
-    while i < part.len() {
-        part[i] = (left % 256) as u8;
-        left = left / 256;
-        i += 1;
+    for byte in part.iter_mut() {
+        *byte = (left % 256) as u8;
+        left /= 256;
     }
 }

@@ -104,13 +104,6 @@ page_byte b at e h k =
     let m : 0x20 + at ≡ b = omega arith in
     inside code_page at 0 0x3F (omega (arith, page_length)) ∙ sym (rw m at (behind at))
 
--- the same of a table that is this one
-pub in_page : (table : List ℕ) (b at : ℕ) → table ≡ code_page → at ≡ b - 0x20 → b ≤ 0x7E → at < length table
-in_page table b at t e k = rw (t, page_length) (omega arith)
-
-pub of_page : (table : List ℕ) (b at : ℕ) → table ≡ code_page → at ≡ b - 0x20 → 0x20 ≤ b → b ≤ 0x7E → get_or table at 0 ≡ ebcdic b
-of_page table b at t e h k = rw t (page_byte b at e h k)
-
 printable : (b : ℕ) → Printable b → ebcdic b ≡ entry (b - 0x20)
 unfolding entry
 printable b h = sym (page_byte b (b - 0x20) refl h.0 h.1)

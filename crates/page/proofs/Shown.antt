@@ -2,6 +2,9 @@
 -- Assumes nothing.
 use mathlib.Core.Path.{◌≡◌, refl, ap, sym, ◌∙◌}
 use mathlib.Core.Bool.{Bool, true, false, true≢false}
+use Rattle.std.specs.Prelude.{nat_eq}
+use Rattle.std.specs.List.{starts_with}
+use Rattle.std.proofs.lemmas.Bool.Decides.{nat_tests}
 use mathlib.Core.List.{List, [], ◌∷◌, ◌++◌, map, append-nil, append_assoc}
 use Prim.Native.Nat.{ℕ, zero, suc, ◌+◌, ◌/◌, ◌≤◌, ◌<◌}
 use native.Mathlib.Nat.{le_of_suc-le-suc, not-suc-le-zero}
@@ -9,7 +12,7 @@ use native.Mathlib.Omega.{arith}
 use lib.Dec.{eqb}
 use lib.ListN.{length, take, drop, get_or, set, length-append, length-take, length-drop, drop_of_length-le}
 use lib.Seq.{drop-cons, take-suc, take_all}
-use borrow.Author.Tests.{eq-eqb, ne_eqb, eqb-true}
+use borrow.Author.Tests.{ne_eqb, eqb-true}
 use Rattle.page.specs.CodePage.{code_page, ebcdic, shown, is_ascii, translated}
 use Rattle.page.proofs.CodePage.{both_left, ebcdic_byte}
 
@@ -137,23 +140,17 @@ module _ (before bytes : List ℕ) (i : ℕ) (c : Replaced before bytes i) where
       c.done ∙ rw (e, take_all (length before) before (omega arith), drop_of_length-le before {i = length before} (omega arith)) (append-nil (shown true before))
 
 -- the first two bytes tell
-pub short_file : (xs : List ℕ) → length xs < 2 → false ≡ is_ascii xs
+pub starts_tell : (xs : List ℕ) → starts_with nat_eq xs (0x46 ∷ 0x48 ∷ []) ≡ is_ascii xs
 unfolding is_ascii
-short_file [] h = refl
-short_file (x ∷ []) h = refl
-short_file (x ∷ y ∷ xs) h = absurd (omega arith)
+starts_tell [] = refl
+starts_tell (x ∷ []) = grind (arith, nat_tests)
+starts_tell (x ∷ y ∷ xs) = grind (arith, nat_tests)
 
-pub other_first : (xs : List ℕ) → (get_or xs 0 0 ≡ 0x46 → ⊥) → false ≡ is_ascii xs
+other_first : (xs : List ℕ) → (get_or xs 0 0 ≡ 0x46 → ⊥) → false ≡ is_ascii xs
 unfolding is_ascii
 other_first [] h = refl
 other_first (x ∷ []) h = refl
 other_first (x ∷ y ∷ xs) h = rw (ne_eqb x 0x46 h)
-
-pub second_tells : (xs : List ℕ) (r : Bool) → 2 ≤ length xs → get_or xs 0 0 ≡ 0x46 → r ≡ eqb (get_or xs 1 0) 0x48 → r ≡ is_ascii xs
-unfolding is_ascii
-second_tells [] r h e t = absurd (omega arith)
-second_tells (x ∷ []) r h e t = absurd (omega arith)
-second_tells (x ∷ y ∷ xs) r h e t = t ∙ rw (eq-eqb x 0x46 e)
 
 -- the whole file: as long; the same where it is not ASCII; and never ASCII itself, so that translating twice is translating once
 pub translated_length : (file : List ℕ) → length (translated file) ≡ length file

@@ -1,8 +1,8 @@
 // ASCII files (02 W2): which they are, and what their bytes become.
 #![tactic(auto)]
 
-ghost use Rattle.std.specs.Prelude.{◌≡◌, true};
-ghost use Rattle.page.specs.CodePage.{sent_digits, code_page, ebcdic, shown, is_ascii};
+ghost use Rattle.std.specs.Prelude.{◌≡◌, true, ◌&&◌, leb};
+ghost use Rattle.page.specs.CodePage.{sent_digits, ebcdic, shown, is_ascii};
 
 // The bytes of the printable characters, hex 20 to 7E, in code page 037.
 const CODE_PAGE: [u8; 95] = [
@@ -14,50 +14,31 @@ const CODE_PAGE: [u8; 95] = [
     0x97, 0x98, 0x99, 0xA2, 0xA3, 0xA4, 0xA5, 0xA6, 0xA7, 0xA8, 0xA9, 0xC0, 0x4F, 0xD0, 0xA1,
 ];
 
-// What the table has for a byte, or 3F.
-fn entry_of(table: &[u8], byte: u8) -> u8
-    requires { table.now ≡ code_page }
-    ensures { result ≡ ebcdic byte }
-{
-    if byte < 0x20 {
-        return 0x3F;
-    }
-    if byte <= 0x7E {
-        let at = (byte - 0x20) as usize;
-        return table[at];
-    }
-    0x3F
-}
-
-// What a byte of an ASCII file becomes. Digits land in a row: for them the table is not built.
+// What a byte of an ASCII file becomes.
 pub fn translate(byte: u8) -> u8
     ensures { result ≡ ebcdic byte }
 {
-    if 0x30 <= byte {
-        if byte <= 0x39 {
-            return byte + 0xC0;
+    match byte {
+        0x20..=0x7E => {
+            let at = usize::from(byte - 0x20);
+            CODE_PAGE[at]
         }
+        _ => 0x3F,
     }
-    let table = CODE_PAGE;
-    entry_of(&table, byte)
+}
+
+// The byte is a digit's in ASCII.
+fn is_digit(byte: u8) -> bool
+    ensures { result ≡ (leb 0x30 byte && leb byte 0x39) }
+{
+    matches!(byte, 0x30..=0x39)
 }
 
 // Every byte is a digit.
 fn are_digits(bytes: &[u8]) -> bool
     ensures { result ≡ sent_digits bytes.now }
 {
-    let mut i: usize = 0;
-    while i < bytes.len() {
-        let byte = bytes[i];
-        if byte < 0x30 {
-            return false;
-        }
-        if 0x39 < byte {
-            return false;
-        }
-        i += 1;
-    }
-    true
+    bytes.iter().all(|byte| is_digit(*byte))
 }
 
 // Translates digits, where they stand.
@@ -65,15 +46,12 @@ fn shift_digits(bytes: &mut [u8])
     requires { sent_digits bytes.old ≡ true }
     ensures { bytes.new ≡ shown true bytes.old }
 {
-    let mut i: usize = 0;
-    while i < bytes.len() {
-        let byte = bytes[i];
-        bytes[i] = byte + 0xC0;
-        i += 1;
+    for byte in bytes.iter_mut() {
+        *byte += 0xC0;
     }
 }
 
-// Translates each of these bytes, where they stand: digits without the table, others by a table that is built once for all of them.
+// Translates each of these bytes, where they stand: digits, which land in a row, without the table.
 pub fn translate_all(bytes: &mut [u8])
     ensures { bytes.new ≡ shown true bytes.old }
 {
@@ -81,12 +59,8 @@ pub fn translate_all(bytes: &mut [u8])
         shift_digits(bytes);
         return;
     }
-    let table = CODE_PAGE;
-    let mut i: usize = 0;
-    while i < bytes.len() {
-        let byte = bytes[i];
-        bytes[i] = entry_of(&table, byte);
-        i += 1;
+    for byte in bytes.iter_mut() {
+        *byte = translate(*byte);
     }
 }
 
@@ -94,11 +68,5 @@ pub fn translate_all(bytes: &mut [u8])
 pub fn is_ascii(file: &[u8]) -> bool
     ensures { result ≡ is_ascii file.now }
 {
-    if file.len() < 2 {
-        return false;
-    }
-    if file[0] != 0x46 {
-        return false;
-    }
-    file[1] == 0x48
+    file.starts_with(b"FH")
 }

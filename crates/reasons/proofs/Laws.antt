@@ -6,10 +6,15 @@ use mathlib.Core.List.{List, [], ◌∷◌, ◌++◌}
 use Prim.Native.Nat.{ℕ, ◌+◌, ◌-◌, ◌*◌, ◌<◌, ◌≤◌}
 use native.Mathlib.Omega.{arith}
 use lib.Dec.{eqb, leb, ltb}
-use borrow.Author.Tests.{lt-leb, le-leb, lt-ltb, le-ltb, eq-eqb, ne_eqb, eqb-true, eqb-false}
-use lib.ListN.{length, get_or, replicate, length-append, length-replicate, get_or-append, get_or-replicate}
-use lib.Seq.{get_or-append-add}
-use Rattle.page.specs.CodePage.{shown}
+use borrow.Author.Tests.{lt-leb, le-leb, lt-ltb, le-ltb, eqb-true, eqb-false}
+use lib.ListN.{length, get_or, take, replicate}
+use lib.Pointwise.{pointwise}
+use lib.Seq.{take-append_seam, take-append-add, drop-append_seam}
+use borrow.Rule.Slice.PartMut.{put_mid}
+use Rattle.std.proofs.lemmas.List.{take-replicate}
+use Rattle.std.specs.Prelude.{◌&&◌, drop}
+use Rattle.std.proofs.lemmas.List.{drop_more, drop_all}
+use Rattle.page.specs.CodePage.{shown, twins}
 use Rattle.record.specs.declared.Field.{Field}
 use Rattle.record.specs.declared.Justification.TheVariants.{Fixed}
 use Rattle.record.specs.Choice.{◌and◌, ◌or◌, choose}
@@ -19,38 +24,44 @@ use Rattle.record.specs.Routing.{routing}
 use Rattle.record.specs.Value.{Has, written, held}
 use Rattle.record.proofs.Held.{held_length, held_fixed, filled_digits}
 use Rattle.calendar.specs.Calendar.{dashed_date, plain_date}
-use Rattle.record.proofs.Chain.{and_left, and_right}
+use Rattle.record.proofs.Chain.{and_left, and_right, chain, reads}
 use Rattle.record.proofs.Every.{digit_range}
 use Rattle.money.specs.declared.Amount.{Amount}
 use Rattle.money.specs.Money.{worth, split, cents, Whole}
-use Rattle.money.proofs.Amounts.{worth_split}
-use Rattle.reasons.specs.declared.Finding.{Finding}
-use Rattle.reasons.specs.Findings.{noted}
-use Rattle.reasons.specs.Lists.{one_of}
+use Rattle.money.proofs.Amounts.{worth_split, whole_of}
+use Rattle.reasons.specs.Lists.{Text, values, are_twins, one_of}
 use Rattle.reasons.specs.Reasons.{symbol_and_serial}
 
--- a value in a list of values
-pub one_here : (x : List ℕ) (xs : List (List ℕ)) (v : List ℕ) → alike v x ≡ true → one_of (x ∷ xs) v ≡ true
-unfolding one_of ◌or◌
-one_here x xs v e = rw e
+-- the value at hand, of those that are left
+module _ (ts : List Text) (i : ℕ) (t : Text) (b : i < length ts) (e : t ≡ get_or ts i t) where
+  left_is : drop i ts ≡ t ∷ drop (i + 1) ts
+  left_is = drop_more ts i t b ∙ ap (λ (x : Text). x ∷ drop (i + 1) ts) (sym e)
 
-pub one_later : (x : List ℕ) (xs : List (List ℕ)) (v : List ℕ) → alike v x ≡ false → one_of xs v ≡ true → one_of (x ∷ xs) v ≡ true
-unfolding one_of ◌or◌
-one_later x xs v e h = rw e h
+  pub twins_here : are_twins (drop i ts) ≡ true → twins t.1 t.0 ≡ true
+  twins_here a = go _ _ (ap are_twins (sym left_is) ∙ a)
+    where
+      go : (a b : Bool) → (a && b) ≡ true → a ≡ true
+      go true b h = refl
+      go false b h = h
 
-pub one_none : (x : List ℕ) (xs : List (List ℕ)) (v : List ℕ) → alike v x ≡ false → one_of xs v ≡ false → one_of (x ∷ xs) v ≡ false
-unfolding one_of ◌or◌
-one_none x xs v e h = rw e h
+  pub twins_left : are_twins (drop i ts) ≡ true → are_twins (drop (i + 1) ts) ≡ true
+  twins_left a = go _ _ (ap are_twins (sym left_is) ∙ a)
+    where
+      go : (a b : Bool) → (a && b) ≡ true → b ≡ true
+      go true b h = h
+      go false b h = absurd (true≢false (sym h))
 
-pub one_empty : (v : List ℕ) → one_of [] v ≡ false
+  pub value_here : (v : List ℕ) → alike v t.0 ≡ true → one_of (values (drop i ts)) v ≡ true
+  unfolding one_of ◌or◌
+  value_here v h = ap (λ (x : List Text). one_of (values x) v) left_is ∙ rw h
+
+  pub value_left : (v : List ℕ) → alike v t.0 ≡ false → one_of (values (drop i ts)) v ≡ one_of (values (drop (i + 1) ts)) v
+  unfolding one_of ◌or◌
+  value_left v h = ap (λ (x : List Text). one_of (values x) v) left_is ∙ rw h
+
+pub none_left : (ts : List Text) (i : ℕ) (v : List ℕ) → length ts ≤ i → one_of (values (drop i ts)) v ≡ false
 unfolding one_of
-one_empty v = refl
-
-pub one_rest : (x : List ℕ) (xs : List (List ℕ)) (v : List ℕ) (r : Bool) → alike v x ≡ false → r ≡ one_of xs v → r ≡ one_of (x ∷ xs) v
-unfolding one_of ◌or◌
-one_rest x xs v r e h = rw e h
-
-pub ruleset ones = (one_here, one_later, one_none, one_empty)
+none_left ts i v h = ap (λ (x : List Text). one_of (values x) v) (drop_all i ts h)
 
 -- a date, as it stands
 module _ (rec : List ℕ) (f : Field) (j : f.justification ≡ Fixed) (r u : Bool) (t : r ≡ u) where
@@ -140,50 +151,34 @@ module _ (x n : ℕ) (e : x ≡ n) where
   unfolding ◌and◌
   range_high a b h k = rw (← e, le-leb a x h, lt-leb x b k)
 
--- one finding more
-module _ (f x : Finding) where
-  pub note_old : (f.reason ≡ 0 → ⊥) → f ≡ noted f x
-  unfolding noted choose
-  note_old h = rw (ne_eqb f.reason 0 h)
-
-  pub note_sound : f.reason ≡ 0 → x.reason ≡ 0 → f ≡ noted f x
-  unfolding noted choose
-  note_sound h k = rw (eq-eqb f.reason 0 h, eq-eqb x.reason 0 k)
-
-  pub note_new : f.reason ≡ 0 → (x.reason ≡ 0 → ⊥) → x ≡ noted f x
-  unfolding noted choose
-  note_new h k = rw (eq-eqb f.reason 0 h, ne_eqb x.reason 0 k)
-
--- the bytes of a symbol, a serial number and blanks
-module _ (xs ys : List ℕ) (n i : ℕ) (h : length xs ≡ 4) (k : length ys ≡ 8) where
-  pub symbol_byte : i < 4 → get_or xs i 0 ≡ get_or (symbol_and_serial xs ys n) i 0
+-- a symbol, a serial number and eight blanks, put together in place; and so many of their bytes
+module _ (xs ys : List ℕ) (h : length xs ≡ 4) (k : length ys ≡ 8) where
+  pub put_together : put_mid 4 8 (xs ++ replicate 16 0x40) ys ≡ symbol_and_serial xs ys 8
   unfolding symbol_and_serial
-  symbol_byte b = sym (get_or-append xs (ys ++ replicate n 0x40) 0 i (omega arith))
+  put_together =
+      let t : take 4 (xs ++ replicate 16 0x40) ≡ xs = ap (λ (n : ℕ). take n (xs ++ replicate 16 0x40)) (sym h) ∙ take-append_seam xs (replicate 16 0x40) in
+      let d : drop 4 (xs ++ replicate 16 0x40) ≡ replicate 16 0x40 = ap (λ (n : ℕ). drop n (xs ++ replicate 16 0x40)) (sym h) ∙ drop-append_seam xs (replicate 16 0x40) in
+      ap (λ (u : List ℕ). u ++ (ys ++ drop 8 (drop 4 (xs ++ replicate 16 0x40)))) t ∙ ap (λ (u : List ℕ). xs ++ (ys ++ drop 8 u)) d
 
-  pub serial_byte : 4 ≤ i → i < 12 → get_or ys (i - 4) 0 ≡ get_or (symbol_and_serial xs ys n) i 0
+  pub fewer_blanks : (w : ℕ) → 12 ≤ w → w ≤ 20 → take w (symbol_and_serial xs ys 8) ≡ symbol_and_serial xs ys (w - 12)
   unfolding symbol_and_serial
-  serial_byte a b =
-      let e : i ≡ length xs + (i - 4) = omega arith in
-      sym
-      (ap (λ (j : ℕ). get_or (symbol_and_serial xs ys n) j 0) e
-      ∙ get_or-append-add xs (ys ++ replicate n 0x40) (i - 4) 0
-      ∙ get_or-append ys (replicate n 0x40) 0 (i - 4) (omega arith))
+  fewer_blanks w m n =
+      let e : w ≡ length xs + (length ys + (w - 12)) = omega arith in
+      ap (λ (i : ℕ). take i (xs ++ (ys ++ replicate 8 0x40))) e
+      ∙ take-append-add xs (ys ++ replicate 8 0x40) (length ys + (w - 12))
+      ∙ ap (λ (u : List ℕ). xs ++ u) (take-append-add ys (replicate 8 0x40) (w - 12) ∙ ap (λ (u : List ℕ). ys ++ u) (take-replicate (w - 12) 8 0x40 (omega arith)))
 
-  pub blank_byte : 12 ≤ i → i < n + 12 → 0x40 ≡ get_or (symbol_and_serial xs ys n) i 0
-  unfolding symbol_and_serial
-  blank_byte a b =
-      let e : i ≡ length xs + (length ys + (i - 12)) = omega arith in
-      sym
-      (ap (λ (j : ℕ). get_or (symbol_and_serial xs ys n) j 0) e
-      ∙ get_or-append-add xs (ys ++ replicate n 0x40) (length ys + (i - 12)) 0
-      ∙ get_or-append-add ys (replicate n 0x40) (i - 12) 0
-      ∙ get_or-replicate n (i - 12) 0x40 0 (omega arith))
+-- the library's test of two slices is the test over the full width
+pub same_bytes : (xs ys : List ℕ) → pointwise eqb xs ys ≡ alike xs ys
+unfolding alike ◌and◌
+same_bytes [] [] = refl
+same_bytes [] (y ∷ ys) = refl
+same_bytes (x ∷ xs) [] = refl
+same_bytes (x ∷ xs) (y ∷ ys) = rw (same_bytes xs ys) (go (eqb x y))
+  where
+    go : (b : Bool) → (b && alike xs ys) ≡ (b and alike xs ys)
+    go true = refl
+    go false = refl
 
-pub composed_length : (xs ys : List ℕ) (n : ℕ) → length xs ≡ 4 → length ys ≡ 8 → length (symbol_and_serial xs ys n) ≡ n + 12
-unfolding symbol_and_serial
-composed_length xs ys n h k = simp (length-append, length-replicate) (omega arith)
-
--- of copies of the field and of the serial number
-pub composed_held : (r : Bool) (own field symbol serial number : List ℕ) (width : ℕ) → own ≡ field → length field ≡ width → serial ≡ number
-    → r ≡ alike own (symbol_and_serial symbol serial (length own - 12)) → r ≡ alike field (symbol_and_serial symbol number (width - 12))
-composed_held r own field symbol serial number width e w n h = h ∙ rw (e, w, n)
+-- what the checks of fields are worked out by
+pub ruleset checks = (chain, reads, dashed_told, plain_told, routing_blank, routing_digits, equals, above, some_cents, no_cents, whole_nothing, whole_limit, whole_of, range_low, range_in, range_high)

@@ -1,4 +1,4 @@
 pub mod Laws
-mod Times
+pub mod Times
 pub mod Firsts
 pub mod Unique

@@ -9,6 +9,7 @@ use Rattle.reasons.proofs.checks.check_symbol.Reads as check-symbol
 use Rattle.reasons.proofs.checks.number_is.Reads as number_is
 use Rattle.reasons.proofs.checks.unrepeated.Reads as unrepeated
 use Rattle.reasons.proofs.checks.composed.Reads as composed
+use Rattle.reasons.proofs.find.Reads as find
 use Rattle.reasons.proofs.note.Reads as note
 use Rattle.reasons.proofs.lists.voucher_form.Reads as voucher-form
 use Rattle.reasons.proofs.lists.courtesy_check.Reads as courtesy-check
@@ -50,6 +51,9 @@ unrepeated_unique κs a r s x y p q = p ∙ sym q
 
 pub composed_unique : OneResult composed.Post
 composed_unique κs a r s x y p q = p ∙ sym q
+
+pub find_unique : OneResult find.Post
+find_unique κs a r s x y p q = p ∙ sym q
 
 pub note_unique : OneResult note.Post
 note_unique κs a r s x y p q = p ∙ sym q

@@ -1,12 +1,26 @@
 -- The listed values of document 01, in EBCDIC, over the full width of their fields.
-use Rattle.std.specs.Prelude.{ℕ, Bool, false, List, [], ◌∷◌}
+use Rattle.std.specs.Prelude.{ℕ, Bool, true, false, ◌&&◌, List, [], ◌∷◌}
 use Rattle.record.specs.Choice.{◌or◌}
+use Rattle.page.specs.CodePage.{twins}
 use Rattle.record.specs.Tests.{alike}
 
 -- one of the values
 unfoldable pub one_of : List (List ℕ) → List ℕ → Bool
 one_of [] v = false
 one_of (x ∷ xs) v = alike v x or one_of xs v
+
+-- values, each with what ASCII files send for it; and the values alone
+abbrev pub Text : Type 0
+Text = List ℕ × List ℕ
+
+abbrev pub values : List Text → List (List ℕ)
+values [] = []
+values (t ∷ ts) = t.0 ∷ values ts
+
+-- it is what they send (02 W2)
+abbrev pub are_twins : List Text → Bool
+are_twins [] = true
+are_twins (t ∷ ts) = twins t.1 t.0 && are_twins ts
 
 -- field 10: 5515, or 215 and a blank
 abbrev pub voucher_forms : List (List ℕ)

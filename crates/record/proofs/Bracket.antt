@@ -6,7 +6,7 @@ use mathlib.Core.Logic.{⊎_elim}
 use Prim.Native.Nat.{ℕ, ◌+◌, ◌-◌, ◌/◌, ◌≤◌, ◌<◌}
 use native.Mathlib.Nat.{eq-or-lt_of_le, eq-zero-or-pos}
 use native.Mathlib.Omega.{arith}
-use Rattle.record.specs.declared.Order.TheVariants.{Before, Same, After}
+use Rattle.std.specs.declared.cmp.Ordering.TheVariants.{Less, Equal, Greater}
 use Rattle.record.specs.Ordering.{order}
 use Rattle.record.proofs.Orders.{turn_before, turn_after, order_equal, before_not, after_not, order_transitive}
 
@@ -19,8 +19,8 @@ module _ (key : ℕ → List ℕ) (count : ℕ) (x : List ℕ) where
   pub record Bracket (low high : ℕ) : Type 0 where
     pub ordered : low ≤ high
     pub inside : high ≤ count
-    pub below : (j : ℕ) → j < low → order (key j) x ≡ Before
-    pub above : (j : ℕ) → high ≤ j → j < count → order (key j) x ≡ After
+    pub below : (j : ℕ) → j < low → order (key j) x ≡ Less
+    pub above : (j : ℕ) → high ≤ j → j < count → order (key j) x ≡ Greater
 
   pub opened : Bracket 0 count
   opened = record {
@@ -31,8 +31,8 @@ module _ (key : ℕ → List ℕ) (count : ℕ) (x : List ℕ) where
   }
 
   -- the keys ascend, and key m is looked at
-  module _ (up : (i j : ℕ) → i < j → j < count → order (key i) (key j) ≡ Before) (m : ℕ) where
-    pub raised : (low high : ℕ) → Bracket low high → m < high → order (key m) x ≡ Before → Bracket (m + 1) high
+  module _ (up : (i j : ℕ) → i < j → j < count → order (key i) (key j) ≡ Less) (m : ℕ) where
+    pub raised : (low high : ℕ) → Bracket low high → m < high → order (key m) x ≡ Less → Bracket (m + 1) high
     raised low high b h t = record {
       ordered = omega arith;
       inside = b.inside;
@@ -43,7 +43,7 @@ module _ (key : ℕ → List ℕ) (count : ℕ) (x : List ℕ) where
       above = b.above;
     }
 
-    pub lowered : (low high : ℕ) → Bracket low high → low ≤ m → m < high → order (key m) x ≡ After → Bracket low m
+    pub lowered : (low high : ℕ) → Bracket low high → low ≤ m → m < high → order (key m) x ≡ Greater → Bracket low m
     lowered low high b l h t = record {
       ordered = l;
       inside = omega (arith, b.inside);
@@ -55,19 +55,19 @@ module _ (key : ℕ → List ℕ) (count : ℕ) (x : List ℕ) where
     }
 
     -- where key m is x
-    module _ (t : order (key m) x ≡ Same) where
+    module _ (t : order (key m) x ≡ Equal) where
       pub same_is : key m ≡ x
       same_is = order_equal _ _ t
 
-      pub same_below : m < count → (j : ℕ) → j < m → order (key j) x ≡ Before
+      pub same_below : m < count → (j : ℕ) → j < m → order (key j) x ≡ Less
       same_below h j l = rw (← same_is) (up j m l h)
 
-      pub same_above : (j : ℕ) → m < j → j < count → order (key j) x ≡ After
+      pub same_above : (j : ℕ) → m < j → j < count → order (key j) x ≡ Greater
       same_above j l h = rw (← same_is) (turn_before _ _ (up m j l h))
 
   -- where nothing is left between the bounds
   module _ (low high : ℕ) (b : Bracket low high) (e : high ≤ low) where
-    pub end_above : (j : ℕ) → low ≤ j → j < count → order (key j) x ≡ After
+    pub end_above : (j : ℕ) → low ≤ j → j < count → order (key j) x ≡ Greater
     end_above j l h = b.above j (omega arith) h
 
     pub end_none : (j : ℕ) → j < count → key j ≡ x → ⊥

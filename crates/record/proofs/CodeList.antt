@@ -6,9 +6,8 @@ use mathlib.Core.Logic.{◌⊎◌, inl, inr}
 use mathlib.Core.List.{List, [], ◌∷◌}
 use Prim.Native.Nat.{ℕ, ◌≤◌}
 use native.Mathlib.Omega.{arith}
-use lib.Dec.{eqb}
 use lib.ListN.{length, get_or}
-use borrow.Author.Tests.{eq-eqb, ne_eqb}
+use borrow.Author.Tests.{ne_eqb}
 use Rattle.record.specs.declared.codes.Code.{Code}
 use Rattle.record.specs.declared.codes.Code.TheVariants.{FileHeader, Batch, Detail, Party, Account, Procurement, BatchTrailer, FileTrailer, Unknown}
 use Rattle.record.specs.declared.codes.Letter.{Letter}
@@ -20,25 +19,7 @@ use Rattle.record.specs.Fields.{record_code}
 use Rattle.record.specs.Correction.{corrected}
 use Rattle.record.specs.Value.{written, held}
 use Rattle.record.specs.Codes.{code_in, code_bytes, code_of, letter_byte, codes, is_detail, is_header}
-use Rattle.record.proofs.Chain.{and_true}
 use Rattle.record.proofs.Same.{alike_equal}
-
--- two bytes, and another two
-pub first_apart : (xs ts : List ℕ) → length xs ≡ 2 → length ts ≡ 2 → (get_or xs 0 0 ≡ get_or ts 0 0 → ⊥) → false ≡ alike xs ts
-unfolding alike ◌and◌
-first_apart [] ts n m d = absurd (omega arith)
-first_apart (x ∷ xs) [] n m d = absurd (omega arith)
-first_apart (x ∷ xs) (t ∷ ts) n m d = rw (ne_eqb x t d)
-
-pub second_alike : (xs ts : List ℕ) (r : Bool) → length xs ≡ 2 → length ts ≡ 2 → get_or xs 0 0 ≡ get_or ts 0 0 → r ≡ eqb (get_or xs 1 0) (get_or ts 1 0) → r ≡ alike xs ts
-unfolding alike ◌and◌
-second_alike (x ∷ y ∷ []) (t ∷ u ∷ []) r n m e h = h ∙ rw (eq-eqb x t e, and_true (eqb y u))
-second_alike [] ts r n m e h = absurd (omega arith)
-second_alike (x ∷ []) ts r n m e h = absurd (omega arith)
-second_alike (x ∷ y ∷ z ∷ xs) ts r n m e h = absurd (omega arith)
-second_alike (x ∷ y ∷ []) [] r n m e h = absurd (omega arith)
-second_alike (x ∷ y ∷ []) (t ∷ []) r n m e h = absurd (omega arith)
-second_alike (x ∷ y ∷ []) (t ∷ u ∷ v ∷ ts) r n m e h = absurd (omega arith)
 
 -- the two bytes with which a record begins, as they were sent and as they are seen
 pub code_sent : (ascii : Bool) (rec : List ℕ) (a b : ℕ) → 2 ≤ length rec → ascii ≡ false → a ≡ get_or rec 0 0 → b ≡ get_or rec 1 0 → a ∷ b ∷ [] ≡ held (shown ascii rec) record_code
@@ -58,17 +39,71 @@ pub code_read : (rec bytes : List ℕ) (c : Code) → bytes ≡ held rec record_
 unfolding code_of
 code_read rec bytes c e h = h ∙ ap (code_in codes) e
 
-pub code_here : (c : Code) (cs : List Code) (xs : List ℕ) → alike xs (code_bytes c) ≡ true → c ≡ code_in (c ∷ cs) xs
-unfolding code_in choose
-code_here c cs xs e = rw e
+-- the code of two bytes, known one by one
+pub pair_code : (xs : List ℕ) (x y : ℕ) (c : Code) → length xs ≡ 2 → get_or xs 0 0 ≡ x → get_or xs 1 0 ≡ y → c ≡ code_in codes (x ∷ y ∷ []) → c ≡ code_in codes xs
+pair_code [] x y c n e f h = absurd (omega arith)
+pair_code (a ∷ []) x y c n e f h = absurd (omega arith)
+pair_code (a ∷ b ∷ []) x y c n e f h = h ∙ rw (e, f)
+pair_code (a ∷ b ∷ d ∷ xs) x y c n e f h = absurd (omega arith)
 
-pub code_next : (c d : Code) (cs : List Code) (xs : List ℕ) → alike xs (code_bytes c) ≡ false → d ≡ code_in cs xs → d ≡ code_in (c ∷ cs) xs
-unfolding code_in choose
-code_next c d cs xs e h = rw e h
+-- bytes with which no code begins, and those that none has behind its first
+pub no_first : (x y : ℕ) → (x ≡ 0xC4 → ⊥) → (x ≡ 0xC2 → ⊥) → (x ≡ 0xC6 → ⊥) → Unknown ≡ code_in codes (x ∷ y ∷ [])
+unfolding code_in code_bytes letter_byte alike choose ◌and◌
+no_first x y a b c = rw (ne_eqb x 0xC4 a, ne_eqb x 0xC2 b, ne_eqb x 0xC6 c)
 
-pub code_none : (xs : List ℕ) → Unknown ≡ code_in [] xs
-unfolding code_in
-code_none xs = refl
+pub no_detail : (y : ℕ) → (y ≡ 0xE7 → ⊥) → (y ≡ 0xE3 → ⊥) → (y ≡ 0xD7 → ⊥) → (y ≡ 0xD5 → ⊥) → (y ≡ 0xC3 → ⊥) → (y ≡ 0xE6 → ⊥) → (y ≡ 0xC9 → ⊥) → (y ≡ 0xC1 → ⊥)
+    → Unknown ≡ code_in codes (0xC4 ∷ y ∷ [])
+unfolding code_in code_bytes letter_byte alike choose ◌and◌
+no_detail y a b c d e f g h =
+    rw (ne_eqb y 0xE7 a, ne_eqb y 0xE3 b, ne_eqb y 0xD7 c, ne_eqb y 0xD5 d, ne_eqb y 0xC3 e, ne_eqb y 0xE6 f, ne_eqb y 0xC9 g, ne_eqb y 0xC1 h)
+
+pub no_batch : (y : ℕ) → (y ≡ 0xD5 → ⊥) → (y ≡ 0xC3 → ⊥) → (y ≡ 0xE6 → ⊥) → (y ≡ 0xC9 → ⊥) → (y ≡ 0xC1 → ⊥) → (y ≡ 0xE3 → ⊥) → Unknown ≡ code_in codes (0xC2 ∷ y ∷ [])
+unfolding code_in code_bytes letter_byte alike choose ◌and◌
+no_batch y a b c d e f = rw (ne_eqb y 0xD5 a, ne_eqb y 0xC3 b, ne_eqb y 0xE6 c, ne_eqb y 0xC9 d, ne_eqb y 0xC1 e, ne_eqb y 0xE3 f)
+
+pub no_frame : (y : ℕ) → (y ≡ 0xC8 → ⊥) → (y ≡ 0xE3 → ⊥) → Unknown ≡ code_in codes (0xC6 ∷ y ∷ [])
+unfolding code_in code_bytes letter_byte alike choose ◌and◌
+no_frame y a b = rw (ne_eqb y 0xC8 a, ne_eqb y 0xE3 b)
+
+-- a test of a record's code, by its two bytes
+pub pair_test : (q : Code → Bool) (rec xs : List ℕ) (x y : ℕ) (b : Bool) → length xs ≡ 2 → xs ≡ held rec record_code → get_or xs 0 0 ≡ x → get_or xs 1 0 ≡ y → b ≡ q (code_in codes (x ∷ y ∷ [])) → b ≡ q (code_of rec)
+pair_test q rec xs x y b n h e f t = t ∙ ap q (code_read rec xs (code_in codes (x ∷ y ∷ [])) h (pair_code xs x y (code_in codes (x ∷ y ∷ [])) n e f refl))
+
+-- each code of the list fails: of itself, or since the bytes are others
+data AllFail (q : Code → Bool) (xs : List ℕ) : List Code → Type 0 where
+  none : AllFail q xs []
+  other : (c : Code) (cs : List Code) → q c ≡ false → AllFail q xs cs → AllFail q xs (c ∷ cs)
+  apart : (c : Code) (cs : List Code) → alike xs (code_bytes c) ≡ false → AllFail q xs cs → AllFail q xs (c ∷ cs)
+
+none_in : (q : Code → Bool) (cs : List Code) (xs : List ℕ) → q Unknown ≡ false → AllFail q xs cs → q (code_in cs xs) ≡ false
+unfolding code_in choose
+none_in q [] xs u none = u
+none_in q (c ∷ cs) xs u (other _ _ e h) = go (alike xs (code_bytes c)) (none_in q cs xs u h)
+  where
+    go : (t : Bool) → q (code_in cs xs) ≡ false → q (choose t c (code_in cs xs)) ≡ false
+    go true r = e
+    go false r = r
+none_in q (c ∷ cs) xs u (apart _ _ e h) = rw e (none_in q cs xs u h)
+
+pub other_first_detail : (x y : ℕ) → (x ≡ 0xC4 → ⊥) → false ≡ is_detail (code_in codes (x ∷ y ∷ []))
+unfolding code_bytes alike ◌and◌ is_detail
+other_first_detail x y a =
+    let f : (l : Letter) → alike (x ∷ y ∷ []) (code_bytes (Detail l)) ≡ false = λ l. rw (ne_eqb x 0xC4 a) in
+    sym (none_in is_detail codes (x ∷ y ∷ []) refl (other _ _ refl (other _ _ refl (other _ _ refl (apart _ _ (f N) (apart _ _ (f C) (apart _ _ (f W) (apart _ _ (f I) (apart _ _ (f A) (other _ _ refl (other _ _ refl (other _ _ refl (other _ _ refl (other _ _ refl (other _ _ refl (other _ _ refl (other _ _ refl none)))))))))))))))))
+
+pub other_second_detail : (y : ℕ) → (y ≡ 0xD5 → ⊥) → (y ≡ 0xC3 → ⊥) → (y ≡ 0xE6 → ⊥) → (y ≡ 0xC9 → ⊥) → (y ≡ 0xC1 → ⊥) → false ≡ is_detail (code_in codes (0xC4 ∷ y ∷ []))
+unfolding code_bytes letter_byte alike ◌and◌ is_detail
+other_second_detail y a b c d e = sym (none_in is_detail codes (0xC4 ∷ y ∷ []) refl (other _ _ refl (other _ _ refl (other _ _ refl (apart _ _ (rw (ne_eqb y 0xD5 a)) (apart _ _ (rw (ne_eqb y 0xC3 b)) (apart _ _ (rw (ne_eqb y 0xE6 c)) (apart _ _ (rw (ne_eqb y 0xC9 d)) (apart _ _ (rw (ne_eqb y 0xC1 e)) (other _ _ refl (other _ _ refl (other _ _ refl (other _ _ refl (other _ _ refl (other _ _ refl (other _ _ refl (other _ _ refl none)))))))))))))))))
+
+pub other_first_header : (x y : ℕ) → (x ≡ 0xC2 → ⊥) → false ≡ is_header (code_in codes (x ∷ y ∷ []))
+unfolding code_bytes alike ◌and◌ is_header
+other_first_header x y a =
+    let f : (l : Letter) → alike (x ∷ y ∷ []) (code_bytes (Batch l)) ≡ false = λ l. rw (ne_eqb x 0xC2 a) in
+    sym (none_in is_header codes (x ∷ y ∷ []) refl (other _ _ refl (other _ _ refl (other _ _ refl (other _ _ refl (other _ _ refl (other _ _ refl (other _ _ refl (other _ _ refl (apart _ _ (f N) (apart _ _ (f C) (apart _ _ (f W) (apart _ _ (f I) (apart _ _ (f A) (other _ _ refl (other _ _ refl (other _ _ refl none)))))))))))))))))
+
+pub other_second_header : (y : ℕ) → (y ≡ 0xD5 → ⊥) → (y ≡ 0xC3 → ⊥) → (y ≡ 0xE6 → ⊥) → (y ≡ 0xC9 → ⊥) → (y ≡ 0xC1 → ⊥) → false ≡ is_header (code_in codes (0xC2 ∷ y ∷ []))
+unfolding code_bytes letter_byte alike ◌and◌ is_header
+other_second_header y a b c d e = sym (none_in is_header codes (0xC2 ∷ y ∷ []) refl (other _ _ refl (other _ _ refl (other _ _ refl (other _ _ refl (other _ _ refl (other _ _ refl (other _ _ refl (other _ _ refl (apart _ _ (rw (ne_eqb y 0xD5 a)) (apart _ _ (rw (ne_eqb y 0xC3 b)) (apart _ _ (rw (ne_eqb y 0xE6 c)) (apart _ _ (rw (ne_eqb y 0xC9 d)) (apart _ _ (rw (ne_eqb y 0xC1 e)) (other _ _ refl (other _ _ refl (other _ _ refl none)))))))))))))))))
 
 -- each code is the one that its own bytes give: no two share their bytes
 pub codes_apart : (c : Code) → code_in codes (code_bytes c) ≡ c
@@ -90,52 +125,6 @@ codes_apart Procurement = refl
 codes_apart BatchTrailer = refl
 codes_apart FileTrailer = refl
 codes_apart Unknown = refl
-
--- a test of a record's code, code by code: where the record has the bytes of a code, what the test says of that; where it has those of no code of which the test holds, no
-pub named : (q : Code → Bool) (c : Code) (b : Bool) (rec : List ℕ) → q c ≡ b → alike (held rec record_code) (code_bytes c) ≡ true → b ≡ q (code_of rec)
-unfolding code_of
-named q c b rec t e = rw (alike_equal (held rec record_code) (code_bytes c) e, codes_apart c, t)
-
--- each code of the list fails: of itself, or since the record has other bytes
-pub data AllFail (q : Code → Bool) (xs : List ℕ) : List Code → Type 0 where
-  none : AllFail q xs []
-  other : (c : Code) (cs : List Code) → q c ≡ false → AllFail q xs cs → AllFail q xs (c ∷ cs)
-  apart : (c : Code) (cs : List Code) → alike xs (code_bytes c) ≡ false → AllFail q xs cs → AllFail q xs (c ∷ cs)
-
-none_in : (q : Code → Bool) (cs : List Code) (xs : List ℕ) → q Unknown ≡ false → AllFail q xs cs → q (code_in cs xs) ≡ false
-unfolding code_in choose
-none_in q [] xs u none = u
-none_in q (c ∷ cs) xs u (other _ _ e h) = go (alike xs (code_bytes c)) (none_in q cs xs u h)
-  where
-    go : (t : Bool) → q (code_in cs xs) ≡ false → q (choose t c (code_in cs xs)) ≡ false
-    go true r = e
-    go false r = r
-none_in q (c ∷ cs) xs u (apart _ _ e h) = rw e (none_in q cs xs u h)
-
--- of the last code that is asked for, the others having been
-last_of : (q : Code → Bool) (c : Code) (rec : List ℕ) (r : Bool) → q c ≡ true → q Unknown ≡ false → r ≡ alike (held rec record_code) (code_bytes c)
-    → (alike (held rec record_code) (code_bytes c) ≡ false → AllFail q (held rec record_code) codes) → r ≡ q (code_of rec)
-unfolding code_of
-last_of q c rec true t u e h = named q c true rec t (sym e)
-last_of q c rec false t u e h = sym (none_in q codes (held rec record_code) u (h (sym e)))
-
--- the record has not the code of this letter
-abbrev NoCode : (Letter → Code) → List ℕ → Letter → Type 0
-NoCode kind rec l = alike (held rec record_code) (code_bytes (kind l)) ≡ false
-
-pub last_detail : (rec : List ℕ) (r : Bool) → NoCode Detail rec N → NoCode Detail rec C → NoCode Detail rec W → NoCode Detail rec I
-    → r ≡ alike (held rec record_code) (code_bytes (Detail A)) → r ≡ is_detail (code_of rec)
-unfolding is_detail
-last_detail rec r n c w i e =
-    last_of is_detail (Detail A) rec r refl refl e
-    (λ a. search (none, other, apart) depth 40)
-
-pub last_header : (rec : List ℕ) (r : Bool) → NoCode Batch rec N → NoCode Batch rec C → NoCode Batch rec W → NoCode Batch rec I
-    → r ≡ alike (held rec record_code) (code_bytes (Batch A)) → r ≡ is_header (code_of rec)
-unfolding is_header
-last_header rec r n c w i e =
-    last_of is_header (Batch A) rec r refl refl e
-    (λ a. search (none, other, apart) depth 40)
 
 -- a code that is found is known by its bytes
 pub code_bytes_holds : (cs : List Code) (xs : List ℕ) → (code_in cs xs ≡ Unknown) ⊎ (xs ≡ code_bytes (code_in cs xs))

@@ -4,13 +4,12 @@ use mathlib.Core.Path.{◌≡◌, refl, sym, ap, ◌∙◌}
 use mathlib.Core.Bool.{Bool, true, false}
 use mathlib.Core.List.{List, [], ◌∷◌, ◌++◌}
 use Prim.Native.Nat.{ℕ, zero, suc, ◌+◌, ◌-◌, ◌≤◌, ◌<◌, min}
-use native.Mathlib.Numerals.{add-one}
 use native.Mathlib.Nat.{le_of_suc-le-suc, not-suc-le-zero}
 use native.Mathlib.Omega.{arith}
 use lib.Dec.{leb}
 use borrow.Author.Tests.{lt-leb, le-leb, leb-true, leb-false}
-use lib.ListN.{length, take, drop, get_or, length-take, length-drop, drop_of_length-le, take-append-drop}
-use lib.Seq.{drop-cons, get_or-drop, get_or-take, slice, slice-cons, slice_empty, take-nil, take_all}
+use lib.ListN.{length, take, drop, get_or, length-take, length-drop, take-append-drop}
+use lib.Seq.{get_or-drop, get_or-take, slice, take-nil, take_all}
 use Rattle.record.specs.declared.place.Place.{Place}
 use Rattle.record.specs.Choice.{◌and◌}
 use Rattle.record.specs.Place.{Within, value}
@@ -36,39 +35,6 @@ module _ (rec : List ℕ) (p : Place) (i : ℕ) (w : Within rec p) (h : i < p.wi
 -- a part that is the whole
 pub whole : (rec : List ℕ) (p : Place) (n : ℕ) → Within rec p → p.width ≡ n → slice 0 n (value rec p) ≡ value rec p
 whole rec p n w e = take_all n (value rec p) (omega (arith, value_length rec p w))
-
--- the bytes from i on decide what those from `from` on do
-unfoldable pub Left : (ℕ → Bool) → List ℕ → ℕ → ℕ → ℕ → Type 0
-Left q xs from to i = every q (slice from to xs) ≡ every q (slice i to xs)
-
-pub left_none : (q : ℕ → Bool) (xs : List ℕ) (from to : ℕ) → Left q xs from to from
-unfolding Left
-left_none q xs from to = refl
-
-module _ (q : ℕ → Bool) (rec : List ℕ) (p : Place) (from to i x : ℕ) (w : Within rec p) where
-  pub every_next : i < to → to ≤ p.width → x ≡ get_or (value rec p) i 0 → q x ≡ true → Left q (value rec p) from to i → Left q (value rec p) from to (i + 1)
-  unfolding Left every ◌and◌
-  every_next h k e t l =
-      let n : to ≤ length (value rec p) = omega (arith, value_length rec p w) in
-      let u : q (get_or (value rec p) i 0) ≡ true = cc in
-      l ∙ rw (slice-cons i to (value rec p) 0, add-one, u)
-
-  pub every_stop : i < to → to ≤ p.width → x ≡ get_or (value rec p) i 0 → q x ≡ false → Left q (value rec p) from to i → false ≡ every q (slice from to (value rec p))
-  unfolding Left every ◌and◌
-  every_stop h k e t l =
-      let n : to ≤ length (value rec p) = omega (arith, value_length rec p w) in
-      let u : q (get_or (value rec p) i 0) ≡ false = cc in
-      sym (l ∙ rw (slice-cons i to (value rec p) 0, u))
-
-pub every_end : (q : ℕ → Bool) (xs : List ℕ) (from to i : ℕ) → i ≤ to → to ≤ i → Left q xs from to i → true ≡ every q (slice from to xs)
-unfolding Left every
-every_end q xs from to i h k l =
-    let n : i ≡ to = omega arith in
-    sym (l ∙ rw (n, slice_empty))
-
--- the same of the whole value
-pub every_whole : (q : ℕ → Bool) (rec : List ℕ) (p : Place) (r : Bool) → Within rec p → r ≡ every q (slice 0 p.width (value rec p)) → r ≡ every q (value rec p)
-every_whole q rec p r w e = e ∙ ap (every q) (whole rec p p.width w refl)
 
 -- a part of a list, by its beginning and its length
 pub slice_from : (from to : ℕ) (xs : List ℕ) → slice from to xs ≡ take (to - from) (drop from xs)
@@ -128,27 +94,6 @@ digit_in x h k = rw (le-leb 0xF0 x, le-leb x 0xF9)
 pub digit_range : (x : ℕ) → digit x ≡ true → (0xF0 ≤ x) × (x ≤ 0xF9)
 unfolding digit
 digit_range x e = (leb-true 0xF0 x (and_left (leb 0xF0 x) (leb x 0xF9) e), leb-true x 0xF9 (and_right (leb 0xF0 x) (leb x 0xF9) e))
-
--- the least byte, from the front
-unfoldable pub Lowest : List ℕ → ℕ → ℕ → Type 0
-Lowest xs i low = least_from 0xFF xs ≡ least_from low (drop i xs)
-
-pub lowest_none : (xs : List ℕ) → Lowest xs 0 0xFF
-unfolding Lowest
-lowest_none xs = refl
-
-pub lowest_next : (rec : List ℕ) (p : Place) (i low x r : ℕ) → Within rec p → i < p.width → x ≡ get_or (value rec p) i 0 → r ≡ min x low
-    → Lowest (value rec p) i low → Lowest (value rec p) (i + 1) r
-unfolding Lowest least_from
-lowest_next rec p i low x r w h e t l =
-    let n : i < length (value rec p) = omega (arith, value_length rec p w) in
-    l ∙ rw (add-one, drop-cons (value rec p) i 0, t, e)
-
-pub lowest_end : (rec : List ℕ) (p : Place) (i low : ℕ) → Within rec p → p.width ≤ i → Lowest (value rec p) i low → low ≡ least_from 0xFF (value rec p)
-unfolding Lowest least_from
-lowest_end rec p i low w h l =
-    let n : length (value rec p) ≤ i = omega (arith, value_length rec p w) in
-    sym (l ∙ rw drop_of_length-le)
 
 -- the least byte decides
 pub above_min : (a x y : ℕ) → leb a (min x y) ≡ (leb a x and leb a y)

@@ -12,14 +12,14 @@ use Rattle.record.specs.declared.Field.{Field}
 use Rattle.record.specs.declared.Line.{Line}
 use Rattle.record.specs.declared.Justification.TheVariants.{Fixed}
 use Rattle.page.specs.CodePage.{shown}
-use Rattle.record.specs.Choice.{◌and◌, choose}
+use Rattle.record.specs.Choice.{◌and◌}
 use Rattle.record.specs.Correction.{corrected}
 use Rattle.record.specs.Fields.{record_code}
 use Rattle.record.specs.Moved.{in_place, readable}
 use Rattle.record.specs.Tests.{every, only, alike, blank, digit, digits}
 use Rattle.record.specs.Value.{Has, written, held}
 use Rattle.page.proofs.Shown.{shown_length, shown_take, shown_drop}
-use Rattle.record.proofs.Chain.{and_left, and_right, choose_yes, choose_no}
+use Rattle.record.proofs.Chain.{and_left, and_right}
 use Rattle.record.proofs.Corrected.{corrected_length, corrected_stays, blank_corrected, blank_all}
 use Rattle.record.proofs.Every.{digit_range}
 use Rattle.record.proofs.Parts.{digits_stand}
@@ -109,17 +109,6 @@ module _ (line : Line) (rec : List ℕ) (f : Field) where
     readable_part start end s d =
         let n : end - start ≡ f.width = omega arith in
         rw (n, s) readable_held
-
-pub part_readable : (line : Line) (rec : List ℕ) (f : Field) (t : Bool) (start end : ℕ) → t ≡ readable line f rec → t ≡ true → start ≡ f.start - 1 → end ≡ start + f.width
-    → take (end - start) (drop start rec) ≡ choose (not (readable line f rec)) [] (held (shown line.ascii rec) f)
-part_readable line rec f t start end u h s d =
-    let e : readable line f rec ≡ true = sym u ∙ h in
-    choose_no _ _ _ _ (ap not e) (readable_part line rec f e start end s d)
-
-pub part_unreadable : (line : Line) (rec : List ℕ) (f : Field) (t : Bool) → t ≡ readable line f rec → t ≡ false → [] ≡ choose (not (readable line f rec)) [] (held (shown line.ascii rec) f)
-part_unreadable line rec f t u h =
-    let e : readable line f rec ≡ false = sym u ∙ h in
-    choose_yes _ _ _ _ (ap not e) refl
 
 -- what a leaf read at the place of the field's bytes, as the field holds it
 module _ (rec : List ℕ) (f : Field) (xs : List ℕ) (e : xs ≡ written rec f) where

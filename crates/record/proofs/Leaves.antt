@@ -1,46 +1,60 @@
 -- From the bytes at the place of a field to what the field holds.
 -- Assumes nothing.
 use mathlib.Core.Path.{◌≡◌, refl, sym, ap, ◌∙◌}
-use mathlib.Core.Bool.{Bool, true, false}
+use mathlib.Core.Bool.{Bool, true, false, not}
 use mathlib.Core.List.{List}
 use Prim.Native.Nat.{ℕ}
 use native.Mathlib.Omega.{arith}
+use lib.Dec.{eqb}
 use lib.Seq.{slice, take_all}
 use Rattle.page.specs.CodePage.{shown}
 use Rattle.record.specs.declared.Field.{Field}
 use Rattle.record.specs.declared.Line.{Line}
-use Rattle.record.specs.declared.Order.{Order}
-use Rattle.record.specs.declared.Order.TheVariants.{Before, Same, After}
+use Rattle.std.specs.declared.cmp.Ordering.{Ordering}
+use Rattle.std.specs.Ordering.{is_eq}
 use Rattle.record.specs.declared.Justification.TheVariants.{Fixed}
-use Rattle.record.specs.declared.moved.Test.TheVariants.{Zero, Digit, Filled}
 use Rattle.record.specs.declared.place.Place.{Place}
 use Rattle.record.specs.Choice.{◌and◌}
 use Rattle.record.specs.Correction.{corrected}
-use Rattle.record.specs.Moved.{in_place, readable, test_of}
+use Rattle.record.specs.Moved.{in_place, readable}
 use Rattle.record.specs.Numeral.{numeral}
 use Rattle.record.specs.Ordering.{order}
 use Rattle.record.specs.Place.{value, sent, PlaceOf}
-use Rattle.record.specs.Tests.{every, only, zeros, digits, solid, alike}
+use Rattle.record.specs.Tests.{every, only, zeros, digit, digits, solid, alike}
 use Rattle.record.specs.Value.{Has, seen, written, held}
 use Rattle.record.proofs.Chain.{and_left, and_right}
 use Rattle.record.proofs.Every.{whole, digits_part}
 use Rattle.record.proofs.Held.{held_length, held_digits, held_of, stands_of, readable_plain, readable_held}
 use Rattle.record.proofs.Parts.{filled_stays}
-use Rattle.record.proofs.Sent.{plain_sent, order_alike, order_before, order_after}
+use Rattle.record.proofs.Sent.{plain_sent, order_alike}
 
--- every byte of a value that is moved
+-- every byte of a value that is moved: none passes, or those of the part that decides do
 module _ (rec : List ℕ) (f : Field) (xs : List ℕ) (e : xs ≡ written rec f) (r : Bool) where
-  pub zeros_of : r ≡ every (test_of Zero) (corrected f.justification xs) → r ≡ zeros (held rec f)
-  unfolding test_of only
-  zeros_of q = q ∙ ap (every (test_of Zero)) (held_of rec f xs e)
+  module _ (fails : (q : ℕ → Bool) → q 0x40 ≡ false → every q (corrected f.justification xs) ≡ false) where
+    pub zeros_fail : false ≡ zeros (held rec f)
+    unfolding only
+    zeros_fail = sym (ap zeros (sym (held_of rec f xs e)) ∙ fails (λ (x : ℕ). eqb x 0xF0) refl)
 
-  pub digits_of : r ≡ every (test_of Digit) (corrected f.justification xs) → r ≡ digits (held rec f)
-  unfolding test_of digits
-  digits_of q = q ∙ ap (every (test_of Digit)) (held_of rec f xs e)
+    pub digits_fail : false ≡ digits (held rec f)
+    unfolding digits digit ◌and◌
+    digits_fail = sym (ap digits (sym (held_of rec f xs e)) ∙ fails digit refl)
 
-  pub solid_of : r ≡ every (test_of Filled) (corrected f.justification xs) → r ≡ solid (held rec f)
-  unfolding test_of solid
-  solid_of q = q ∙ ap (every (test_of Filled)) (held_of rec f xs e)
+    pub solid_fails : false ≡ solid (held rec f)
+    unfolding solid
+    solid_fails = sym (ap solid (sym (held_of rec f xs e)) ∙ fails (λ (x : ℕ). not (eqb x 0x40)) refl)
+
+  module _ (ys : List ℕ) (decides : (q : ℕ → Bool) → q 0xF0 ≡ true → every q (corrected f.justification xs) ≡ every q ys) where
+    pub zeros_of : r ≡ zeros ys → r ≡ zeros (held rec f)
+    unfolding only
+    zeros_of q = q ∙ sym (decides (λ (x : ℕ). eqb x 0xF0) refl) ∙ ap zeros (held_of rec f xs e)
+
+    pub digits_of : r ≡ digits ys → r ≡ digits (held rec f)
+    unfolding digits digit ◌and◌
+    digits_of q = q ∙ sym (decides digit refl) ∙ ap digits (held_of rec f xs e)
+
+    pub solid_of : r ≡ solid ys → r ≡ solid (held rec f)
+    unfolding solid
+    solid_of q = q ∙ sym (decides (λ (x : ℕ). not (eqb x 0x40)) refl) ∙ ap solid (held_of rec f xs e)
 
   -- bytes that are digits, or none of them blank, stand in their place
   pub solid_sees : r ≡ solid xs → r ≡ true → true ≡ solid (held rec f)
@@ -84,32 +98,19 @@ module _ (rec : List ℕ) (f : Field) (xs : List ℕ) (e : xs ≡ written rec f)
   pub copy_moved : (ys : List ℕ) → ys ≡ corrected f.justification xs → ys ≡ held rec f
   copy_moved ys q = q ∙ held_of rec f xs e
 
-  pub order_text : (ys text : List ℕ) (o : Order) → ys ≡ text → o ≡ order (corrected f.justification xs) (corrected Fixed ys) → o ≡ order (held rec f) text
+  pub order_text : (ys text : List ℕ) (o : Ordering) → ys ≡ text → o ≡ order (corrected f.justification xs) (corrected Fixed ys) → o ≡ order (held rec f) text
   unfolding corrected
   order_text ys text o q h = h ∙ ap (order (corrected f.justification xs)) q ∙ ap (λ (zs : List ℕ). order zs text) (held_of rec f xs e)
 
-  module _ (ys text : List ℕ) (o : Order) (q : ys ≡ text) (h : o ≡ order (corrected f.justification xs) (corrected Fixed ys)) where
-    pub text_before : o ≡ Before → false ≡ alike (held rec f) text
-    text_before k = order_before (held rec f) text o (order_text ys text o q h) k
+  pub text_same : (ys text : List ℕ) (o : Ordering) → ys ≡ text → o ≡ order (corrected f.justification xs) (corrected Fixed ys) → (r : Bool) → r ≡ is_eq o → r ≡ alike (held rec f) text
+  text_same ys text o q h r t = t ∙ order_alike (held rec f) text o (order_text ys text o q h)
 
-    pub text_same : o ≡ Same → true ≡ alike (held rec f) text
-    text_same k = order_alike (held rec f) text o (order_text ys text o q h) k
-
-    pub text_after : o ≡ After → false ≡ alike (held rec f) text
-    text_after k = order_after (held rec f) text o (order_text ys text o q h) k
-
-  module _ (other : List ℕ) (ys : List ℕ) (k : ys ≡ written other f) (o : Order) (h : o ≡ order (corrected f.justification xs) (corrected f.justification ys)) where
+  module _ (other : List ℕ) (ys : List ℕ) (k : ys ≡ written other f) (o : Ordering) (h : o ≡ order (corrected f.justification xs) (corrected f.justification ys)) where
     pub order_moved : o ≡ order (held rec f) (held other f)
     order_moved = h ∙ ap (order (corrected f.justification xs)) (held_of other f ys k) ∙ ap (λ (zs : List ℕ). order zs (held other f)) (held_of rec f xs e)
 
-    pub same_before : o ≡ Before → false ≡ alike (held rec f) (held other f)
-    same_before u = order_before (held rec f) (held other f) o order_moved u
-
-    pub same_same : o ≡ Same → true ≡ alike (held rec f) (held other f)
-    same_same u = order_alike (held rec f) (held other f) o order_moved u
-
-    pub same_after : o ≡ After → false ≡ alike (held rec f) (held other f)
-    same_after u = order_after (held rec f) (held other f) o order_moved u
+    pub same_moved : (r : Bool) → r ≡ is_eq o → r ≡ alike (held rec f) (held other f)
+    same_moved r t = t ∙ order_alike (held rec f) (held other f) o order_moved
 
 -- a number over the full width
 pub number_whole : (ascii : Bool) (rec : List ℕ) (f : Field) (r : ℕ) → Has rec f → r ≡ numeral (slice 0 f.width (held (shown ascii rec) f)) → r ≡ numeral (held (shown ascii rec) f)
@@ -123,7 +124,7 @@ readable_sent line rec f p o e =
     sym (plain_sent rec p (o.coded ∙ a)) ∙ o.holds ∙ ap (λ (c : Bool). written (shown c rec) f) a ∙ readable_held line rec f e
 
 module _ (line : Line) (rec : List ℕ) (f : Field) (p : Place) (o : PlaceOf rec line f p) where
-  pub order_readable : (t : Bool) (bytes ys : List ℕ) (r : Order) → t ≡ readable line f rec → t ≡ true → ys ≡ bytes → r ≡ order (sent rec p) ys → r ≡ order (held (seen line rec) f) bytes
+  pub order_readable : (t : Bool) (bytes ys : List ℕ) (r : Ordering) → t ≡ readable line f rec → t ≡ true → ys ≡ bytes → r ≡ order (sent rec p) ys → r ≡ order (held (seen line rec) f) bytes
   order_readable t bytes ys r u h k q =
       q ∙ ap (order (sent rec p)) k ∙ ap (λ (zs : List ℕ). order zs bytes) (readable_sent line rec f p o (sym u ∙ h))
 
@@ -134,7 +135,7 @@ module _ (line : Line) (rec : List ℕ) (f : Field) (p : Place) (o : PlaceOf rec
     right : sent other q ≡ held (seen other-line other) f
     right = readable_sent other-line other f q n (and_right (readable line f rec) _ (sym u ∙ h))
 
-    pub order_both : (r : Order) → r ≡ order (sent rec p) (sent other q) → r ≡ order (held (seen line rec) f) (held (seen other-line other) f)
+    pub order_both : (r : Ordering) → r ≡ order (sent rec p) (sent other q) → r ≡ order (held (seen line rec) f) (held (seen other-line other) f)
     order_both r k = k ∙ ap (order (sent rec p)) right ∙ ap (λ (zs : List ℕ). order zs (held (seen other-line other) f)) left
 
     pub same_both : (r : Bool) → r ≡ alike (sent rec p) (sent other q) → r ≡ alike (held (seen line rec) f) (held (seen other-line other) f)

@@ -9,6 +9,7 @@ pub mod Orders
 mod Sent
 mod Moving
 mod Leaves
+pub mod Chains
 mod Copies
 pub mod Bracket
 pub mod Table

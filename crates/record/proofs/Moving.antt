@@ -6,30 +6,25 @@ use mathlib.Core.List.{List, [], ◌∷◌, ◌++◌, append-nil, map-append}
 use Prim.Native.Nat.{ℕ, zero, suc, ◌+◌, ◌-◌, ◌≤◌, ◌<◌}
 use native.Mathlib.Nat.{le_of_suc-le-suc, not-suc-le-zero}
 use native.Mathlib.Omega.{arith}
-use types.Run.{OneOf, miss}
-use denote.Enum.Declared.{tag_of}
 use lib.Dec.{eqb}
 use borrow.Author.Tests.{not-true, not-false}
 use lib.ListN.{length, take, drop, get_or, replicate, length-append, length-replicate, get_or-replicate, get_or-eq_default}
 use lib.Seq.{slice, drop-drop, take-take, take_all}
 use Rattle.page.specs.CodePage.{code_page, ebcdic, shown}
-use Rattle.record.specs.declared.Order.{Order}
+use Rattle.std.specs.declared.cmp.Ordering.{Ordering}
 use Rattle.record.specs.declared.Justification.{Justification}
 use Rattle.record.specs.declared.Justification.TheVariants.{Text, Number, Right, Fixed}
 use Rattle.record.specs.declared.place.Place.{Place}
 use Rattle.record.specs.declared.moved.Moved.{Moved}
-use Rattle.record.specs.declared.moved.Test.{Test}
-use Rattle.record.specs.declared.moved.Test.TheVariants.{Zero, Digit, Filled}
 use Rattle.record.specs.Choice.{◌and◌, choose}
 use Rattle.record.specs.Correction.{from_first, up_to_last, trimmed, moved_left, moved_right, zero_padded, corrected}
 use Rattle.record.specs.Place.{Within, value, sent}
-use Rattle.record.specs.Moved.{filled, in_front, in_back, in_place, part_of, left_of, right_of, blanks, moved_sent, moved_value, Fits, Found, test_of}
-use Rattle.record.specs.Tests.{every, only, solid, blank, digit, digits}
+use Rattle.record.specs.Moved.{filled, in_front, in_back, in_place, part_of, left_of, right_of, blanks, moved_sent, moved_value, Fits, Found}
+use Rattle.record.specs.Tests.{every, blank, digit, digits}
 use Rattle.record.specs.Numeral.{numeral}
 use Rattle.record.specs.Ordering.{order}
 use Rattle.page.proofs.Shown.{shown_byte, shown_plain, shown_length, shown_take, shown_drop, shown_at}
-use Rattle.record.proofs.Chain.{and_left, and_right}
-use Rattle.record.proofs.Every.{value_length, whole, slice_from, digits_part}
+use Rattle.record.proofs.Every.{value_length, slice_from, digits_part}
 use Rattle.record.proofs.Sent.{sent_length, value_sent}
 use Rattle.record.proofs.Parts.{at_first, at_second, at_third, every_whole_part, every_blank_behind, zeros_count_nothing}
 use Rattle.record.proofs.Corrected.{Led, led_next, led_stop, led_end, Trailed, trailed_none, trailed_next, trailed_stop, trailed_end, corrected_stays, corrected_all_blank, moved_left_is, moved_right_is, trimmed_is, led_blank, led_filled}
@@ -148,12 +143,16 @@ module _ (rec : List ℕ) (p : Place) (w : Within rec p) where
   pub tail_none : (a : ℕ) → Trailed (value rec p) a p.width
   tail_none a = trailed_none (value rec p) a p.width (value_length rec p w)
 
-  module _ (a e : ℕ) (r : Bool) (k : a < e) (h : e ≤ p.width) (q : r ≡ filled (get_or (value rec p) (e - 1) 0)) where
-    pub tail_on : r ≡ false → Trailed (value rec p) a e → Trailed (value rec p) a (e - 1)
-    tail_on t l = trailed_next (value rec p) a e k (omega (arith, value_length rec p w)) (blank_told r (get_or (value rec p) (e - 1) 0) q t) l
+  module _ (a i : ℕ) (r : Bool) (k : a ≤ i) (h : i < p.width) (q : r ≡ filled (get_or (value rec p) i 0)) where
+    pub tail_on : r ≡ false → Trailed (value rec p) a (i + 1) → Trailed (value rec p) a i
+    tail_on t l =
+        let n : i + 1 - 1 ≡ i = omega arith in
+        rw n at (trailed_next (value rec p) a (i + 1) (omega arith) (omega (arith, value_length rec p w)) (rw n (blank_told r (get_or (value rec p) i 0) q t)) l)
 
-    pub tail_here : r ≡ true → Trailed (value rec p) a e → up_to_last (drop a (value rec p)) ≡ slice a e (value rec p)
-    tail_here t l = trailed_stop (value rec p) a e k (omega (arith, value_length rec p w)) (filled_told r (get_or (value rec p) (e - 1) 0) q t) l
+    pub tail_here : r ≡ true → Trailed (value rec p) a (i + 1) → up_to_last (drop a (value rec p)) ≡ slice a (i + 1) (value rec p)
+    tail_here t l =
+        let n : i + 1 - 1 ≡ i = omega arith in
+        trailed_stop (value rec p) a (i + 1) (omega arith) (omega (arith, value_length rec p w)) (rw n (filled_told r (get_or (value rec p) i 0) q t)) l
 
   pub tail_out : (a e : ℕ) → a ≤ e → e ≤ a → Trailed (value rec p) a e → up_to_last (drop a (value rec p)) ≡ slice a e (value rec p)
   tail_out a e h k l = trailed_end (value rec p) a e h k l
@@ -164,41 +163,40 @@ get_d_any [] i a b h = absurd (not-suc-le-zero h)
 get_d_any (x ∷ xs) zero a b h = refl
 get_d_any (x ∷ xs) (suc i) a b h = get_d_any xs i a b (le_of_suc-le-suc h)
 
-front_of : (j : Justification) (xs : List ℕ) → OneOf (0 ∷ 1 ∷ 2 ∷ []) (tag_of Rattle.record.specs.contracts.Justification.the_type j) → in_front j xs ≡ filled (get_or xs 0 0x40)
+front_of : (j : Justification) (xs : List ℕ) → (j ≡ Fixed → ⊥) → in_front j xs ≡ filled (get_or xs 0 0x40)
 unfolding in_front
 front_of Text xs h = refl
 front_of Number xs h = refl
 front_of Right xs h = refl
-front_of Fixed xs h = absurd (miss (0 ∷ 1 ∷ 2 ∷ []) 3 tt h)
+front_of Fixed xs h = absurd (h refl)
 
-back_of : (j : Justification) (xs : List ℕ) → OneOf (1 ∷ 2 ∷ []) (tag_of Rattle.record.specs.contracts.Justification.the_type j) → in_back j xs ≡ filled (get_or xs (length xs - 1) 0x40)
+back_of : (j : Justification) (xs : List ℕ) → (j ≡ Fixed → ⊥) → (j ≡ Text → ⊥) → in_back j xs ≡ filled (get_or xs (length xs - 1) 0x40)
 unfolding in_back
-back_of Text xs h = absurd (miss (1 ∷ 2 ∷ []) 0 tt h)
-back_of Number xs h = refl
-back_of Right xs h = refl
-back_of Fixed xs h = absurd (miss (1 ∷ 2 ∷ []) 3 tt h)
+back_of Text xs h t = absurd (t refl)
+back_of Number xs h t = refl
+back_of Right xs h t = refl
+back_of Fixed xs h t = absurd (h refl)
 
-module _ (rec : List ℕ) (p : Place) (w : Within rec p) (j : Justification) where
-  module _ (o : OneOf (0 ∷ 1 ∷ 2 ∷ []) (tag_of Rattle.record.specs.contracts.Justification.the_type j)) where
-    pub front_none : p.width ≡ 0 → false ≡ in_front j (value rec p)
-    front_none h =
-        let n : length (value rec p) ≤ 0 = omega (arith, value_length rec p w) in
-        sym (front_of j (value rec p) o ∙ rw (get_or-eq_default (value rec p) 0x40 n))
+module _ (rec : List ℕ) (p : Place) (w : Within rec p) (j : Justification) (o : j ≡ Fixed → ⊥) where
+  pub front_none : p.width ≤ 0 → false ≡ in_front j (value rec p)
+  front_none h =
+      let n : length (value rec p) ≤ 0 = omega (arith, value_length rec p w) in
+      sym (front_of j (value rec p) o ∙ rw (get_or-eq_default (value rec p) 0x40 n))
 
-    pub front_is : (r : Bool) → (p.width ≡ 0 → ⊥) → r ≡ filled (get_or (value rec p) 0 0) → r ≡ in_front j (value rec p)
-    front_is r d e = e ∙ ap (λ (x : ℕ). filled x) (get_d_any (value rec p) 0 0 0x40 (omega (arith, value_length rec p w))) ∙ sym (front_of j (value rec p) o)
+  pub front_is : (r : Bool) → 0 < p.width → r ≡ filled (get_or (value rec p) 0 0) → r ≡ in_front j (value rec p)
+  front_is r d e = e ∙ ap (λ (x : ℕ). filled x) (get_d_any (value rec p) 0 0 0x40 (omega (arith, value_length rec p w))) ∙ sym (front_of j (value rec p) o)
 
-  module _ (o : OneOf (1 ∷ 2 ∷ []) (tag_of Rattle.record.specs.contracts.Justification.the_type j)) where
-    pub back_none : p.width ≡ 0 → false ≡ in_back j (value rec p)
+  module _ (t : j ≡ Text → ⊥) where
+    pub back_none : p.width ≤ 0 → false ≡ in_back j (value rec p)
     back_none h =
         let n : length (value rec p) ≤ length (value rec p) - 1 = omega (arith, value_length rec p w) in
-        sym (back_of j (value rec p) o ∙ rw (get_or-eq_default (value rec p) 0x40 n))
+        sym (back_of j (value rec p) o t ∙ rw (get_or-eq_default (value rec p) 0x40 n))
 
-    pub back_is : (r : Bool) → (p.width ≡ 0 → ⊥) → r ≡ filled (get_or (value rec p) (p.width - 1) 0) → r ≡ in_back j (value rec p)
+    pub back_is : (r : Bool) → 0 < p.width → r ≡ filled (get_or (value rec p) (p.width - 1) 0) → r ≡ in_back j (value rec p)
     back_is r d e =
         let n : length (value rec p) - 1 < length (value rec p) = omega (arith, value_length rec p w) in
         e ∙ ap (λ (k : ℕ). filled (get_or (value rec p) (k - 1) 0)) (sym (value_length rec p w))
-        ∙ ap (λ (x : ℕ). filled x) (get_d_any (value rec p) (length (value rec p) - 1) 0 0x40 n) ∙ sym (back_of j (value rec p) o)
+        ∙ ap (λ (x : ℕ). filled x) (get_d_any (value rec p) (length (value rec p) - 1) 0 0x40 n) ∙ sym (back_of j (value rec p) o t)
 
 -- a moved value's bytes
 module _ (rec : List ℕ) (m : Moved) where
@@ -282,42 +280,29 @@ module _ (rec : List ℕ) (m : Moved) (f : Fits rec m) where
   pub moved_copied_shown : (copy after : List ℕ) → m.kept.ascii ≡ true → copy ≡ moved_sent rec m → after ≡ shown true copy → after ≡ moved_value rec m
   moved_copied_shown copy after a e t = t ∙ ap (shown true) e ∙ sym (ap (λ (c : Bool). shown c (moved_sent rec m)) a) ∙ moved_shown rec m
 
--- every byte of a moved value: zeros pass every test, and blanks none
-test_zero : (t : Test) → test_of t 0xF0 ≡ true
-unfolding test_of digit ◌and◌
-test_zero Zero = refl
-test_zero Digit = refl
-test_zero Filled = refl
-
-test_blank : (t : Test) → test_of t 0x40 ≡ false
-unfolding test_of digit ◌and◌
-test_blank Zero = refl
-test_blank Digit = refl
-test_blank Filled = refl
-
+-- every byte of a moved value: zeros pass a test, or blanks fail it
 module _ (rec : List ℕ) (p : Place) (j : Justification) (m : Moved) (d : Found rec p j m) where
-  pub all_not : (t : Test) → m.zeros + m.kept.width < m.width → false ≡ every (test_of t) (corrected j (value rec p))
+  pub all_not : m.zeros + m.kept.width < m.width → (q : ℕ → Bool) → q 0x40 ≡ false → every q (corrected j (value rec p)) ≡ false
   unfolding moved_value
-  all_not t h = sym (ap (every (test_of t)) (sym d.holds) ∙ every_blank_behind (test_of t) m.zeros (blanks m) (value rec m.kept) (test_blank t) (omega arith))
+  all_not h q b = ap (every q) (sym d.holds) ∙ every_blank_behind q m.zeros (blanks m) (value rec m.kept) b (omega arith)
 
-  pub all_kept : (t : Test) (r : Bool) → m.width ≤ m.zeros + m.kept.width → r ≡ every (test_of t) (value rec m.kept) → r ≡ every (test_of t) (corrected j (value rec p))
+  pub all_kept : m.width ≤ m.zeros + m.kept.width → (q : ℕ → Bool) → q 0xF0 ≡ true → every q (corrected j (value rec p)) ≡ every q (value rec m.kept)
   unfolding moved_value
-  all_kept t r h e =
-      e ∙ sym (ap (every (test_of t)) (sym d.holds) ∙ every_whole_part (test_of t) m.zeros (blanks m) (value rec m.kept) (test_zero t) (omega arith))
+  all_kept h q z = ap (every q) (sym d.holds) ∙ every_whole_part q m.zeros (blanks m) (value rec m.kept) z (omega arith)
 
   -- of digits no blank follows, and the part's are its own behind the zeros
   module _ (g : digits (corrected j (value rec p)) ≡ true) where
     no_blanks : blanks m ≡ 0
-    unfolding digits test_of
+    unfolding digits digit ◌and◌
     no_blanks = go (blanks m) refl
       where
         go : (n : ℕ) → blanks m ≡ n → blanks m ≡ 0
         go zero e = e
-        go (suc n) e = absurd (true≢false (sym g ∙ sym (all_not Digit (omega arith))))
+        go (suc n) e = absurd (true≢false (sym g ∙ all_not (omega arith) digit refl))
 
     kept_digits : digits (value rec m.kept) ≡ true
-    unfolding digits test_of
-    kept_digits = all_kept Digit (digits (value rec m.kept)) (omega (arith, no_blanks)) refl ∙ g
+    unfolding digits digit ◌and◌
+    kept_digits = sym (all_kept (omega (arith, no_blanks)) digit refl) ∙ g
 
     kept_value : corrected j (value rec p) ≡ replicate m.zeros 0xF0 ++ value rec m.kept
     unfolding moved_value
@@ -338,27 +323,6 @@ copy_stays j xs ys t u h e = e ∙ sym (corrected_stays j xs (sym u ∙ h))
 pub copy_found : (rec : List ℕ) (p : Place) (j : Justification) (m : Moved) (ys : List ℕ) → Found rec p j m → ys ≡ moved_value rec m → ys ≡ corrected j (value rec p)
 copy_found rec p j m ys d e = e ∙ d.holds
 
--- each test at a place
-pub passes_zero : (t : Test) (xs : List ℕ) (r : Bool) → t ≡ Zero → r ≡ only 0xF0 xs → r ≡ every (test_of t) xs
-unfolding test_of only
-passes_zero t xs r o e = rw o e
-
-pub passes_digit : (rec : List ℕ) (p : Place) (t : Test) (r : Bool) → Within rec p → t ≡ Digit → r ≡ digits (slice 0 p.width (value rec p)) → r ≡ every (test_of t) (value rec p)
-unfolding test_of digits
-passes_digit rec p t r w o e = rw o (e ∙ ap digits (whole rec p p.width w refl))
-
-pub passes_filled : (t : Test) (xs : List ℕ) (r : Bool) → t ≡ Filled → r ≡ solid xs → r ≡ every (test_of t) xs
-unfolding test_of solid
-passes_filled t xs r o e = rw o e
-
--- both are ASCII
-module _ (a b r : Bool) (e : r ≡ (a and b)) (h : r ≡ true) where
-  pub ascii_here : a ≡ true
-  ascii_here = and_left a b (sym e ∙ h)
-
-  pub ascii_there : b ≡ true
-  ascii_there = and_right a b (sym e ∙ h)
-
 -- the order of two values that stand where they belong
-pub order_stays : (j k : Justification) (xs ys : List ℕ) (t u : Bool) (o : Order) → t ≡ in_place j xs → t ≡ true → u ≡ in_place k ys → u ≡ true → o ≡ order xs ys → o ≡ order (corrected j xs) (corrected k ys)
+pub order_stays : (j k : Justification) (xs ys : List ℕ) (t u : Bool) (o : Ordering) → t ≡ in_place j xs → t ≡ true → u ≡ in_place k ys → u ≡ true → o ≡ order xs ys → o ≡ order (corrected j xs) (corrected k ys)
 order_stays j k xs ys t u o p q r s e = e ∙ rw (corrected_stays j xs (sym p ∙ q), corrected_stays k ys (sym r ∙ s))

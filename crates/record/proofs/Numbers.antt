@@ -29,14 +29,14 @@ digit_at rec p from to i x w k l h e t =
     digit_range x (rw (t ∙ sym a) (every_at digit (slice from to (value rec p)) (i - from) j e))
 
 -- the number so far has as many digits as were read
-pub room : (s from i to : ℕ) → s < 10 ^ (i - from) → i < to → to - from ≤ 18 → s < 100000000000000000
-room s from i to h k l =
-    let j : i - from ≤ 17 = omega arith in
+pub room : (s i n : ℕ) → s < 10 ^ i → i < n → n ≤ 18 → s < 100000000000000000
+room s i n h k l =
+    let j : i ≤ 17 = omega arith in
     omega (arith, pow-le-pow_right {n = 10} (omega arith) j)
 
-pub grow : (s from i d : ℕ) → s < 10 ^ (i - from) → from ≤ i → d ≤ 9 → s * 10 + d < 10 ^ (i + 1 - from)
-grow s from i d h k l =
-    let e : i + 1 - from ≡ suc (i - from) = omega arith in
+pub grow : (s i d : ℕ) → s < 10 ^ i → d ≤ 9 → s * 10 + d < 10 ^ (i + 1)
+grow s i d h l =
+    let e : i + 1 ≡ suc i = omega arith in
     rw e (rw pow-suc (omega arith))
 
 -- a number, digit by digit: what is left decides

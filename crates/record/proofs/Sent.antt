@@ -3,28 +3,28 @@
 use mathlib.Core.Path.{◌≡◌, refl, ap, sym, ◌∙◌}
 use mathlib.Core.Bool.{Bool, true, false, true≢false, not, ◌&&◌}
 use mathlib.Core.List.{List, [], ◌∷◌, map}
-use Prim.Native.Nat.{ℕ, suc, ◌+◌, ◌-◌, ◌%◌, ◌≤◌, ◌<◌, min, max}
-use native.Mathlib.Numerals.{add-one}
+use Prim.Native.Nat.{ℕ, ◌+◌, ◌-◌, ◌%◌, ◌≤◌, ◌<◌, min}
 use native.Mathlib.Omega.{arith}
 use lib.Bits.{bit_xor, xor_add_and, and_le_l, and_le_r}
 use lib.Dec.{leb, eqb}
-use lib.ListN.{length, take, drop, get_or, drop_of_length-le}
-use lib.Seq.{drop-cons, slice, slice-cons, slice_empty, take_all}
-use borrow.Author.Tests.{lt-leb, le-leb, leb-true, leb-false, eq-eqb, ne_eqb}
+use lib.ListN.{length, take, drop, get_or, length-take, length-drop}
+use lib.Seq.{get_or-take, get_or-drop, slice, take_all}
+use borrow.Author.Tests.{lt-leb, le-leb, leb-true, leb-false}
 use Rattle.page.specs.CodePage.{code_page, ebcdic, shown, twins}
 use Rattle.page.proofs.CodePage.{below, below_each, digit_lands, digit_sent, twin_byte, twin_rest, valid_sent}
 use Rattle.page.proofs.Shown.{shown_byte, shown_take, shown_drop, shown_at}
-use Rattle.record.specs.declared.Order.{Order}
-use Rattle.record.specs.declared.Order.TheVariants.{Before, Same, After}
+use Rattle.std.specs.declared.cmp.Ordering.{Ordering}
+use Rattle.std.specs.declared.cmp.Ordering.TheVariants.{Less, Equal, Greater}
 use Rattle.record.specs.declared.place.Place.{Place}
 use Rattle.record.specs.Choice.{◌and◌, choose}
 use Rattle.record.specs.Ordering.{order}
 use Rattle.record.specs.Place.{Within, value, plain, sent, near, least_printable, WholeOf}
 use Rattle.record.specs.Tests.{every, only, solid, digit, digits, valid, least_from, alike}
 use Rattle.record.proofs.Chain.{and_left, and_right, and_true}
-use Rattle.record.proofs.Every.{value_length, above_min, and_swap, digit_in, digit_range, valid_is}
+use Rattle.record.proofs.Every.{value_length, slice_from, above_min, and_swap, digit_in, digit_range, valid_is}
 use Rattle.record.proofs.Numbers.{digit_at}
-use Rattle.record.proofs.Orders.{Level, level_before, level_after, level_next, order_equal, before_not, after_not}
+use Rattle.std.specs.Ordering.{nat_cmp, is_eq}
+use Rattle.record.proofs.Orders.{Level, level_alike, level_next, level_apart, order_equal, before_not, after_not}
 use Rattle.record.proofs.Same.{alike_equal, alike_self}
 
 pub value_sent : (rec : List ℕ) (p : Place) → value rec p ≡ shown p.ascii (sent rec p)
@@ -40,6 +40,15 @@ within_plain rec p w = w
 pub sent_length : (rec : List ℕ) (p : Place) → Within rec p → length (sent rec p) ≡ p.width
 sent_length rec p w = value_length rec (plain p) (within_plain rec p w)
 
+-- it is a part of the record
+pub sent_part : (rec : List ℕ) (p : Place) (n : ℕ) → n ≡ p.width → take n (drop p.start rec) ≡ sent rec p
+unfolding value shown
+sent_part rec p n e = rw e
+
+-- and a part of it, by its beginning and its length
+pub sent_slice : (rec : List ℕ) (p : Place) (from to : ℕ) (xs : List ℕ) → xs ≡ sent rec p → take (to - from) (drop from xs) ≡ slice from to (sent rec p)
+sent_slice rec p from to xs e = sym (slice_from from to xs) ∙ ap (slice from to) e
+
 pub plain_sent : (rec : List ℕ) (p : Place) → p.ascii ≡ false → value rec p ≡ sent rec p
 unfolding shown
 plain_sent rec p e = value_sent rec p ∙ rw e
@@ -53,6 +62,39 @@ ascii_at rec p i w a h =
     let n : i < length (sent rec p) = omega (arith, sent_length rec p w) in
     sym (ap (λ (xs : List ℕ). get_or xs i 0) (value_sent rec p) ∙ shown_at p.ascii (sent rec p) i n ∙ rw a)
 
+-- two values in ASCII, of which x and y were sent at i
+module _ (rec : List ℕ) (p : Place) (other : List ℕ) (q : Place) (w : Within rec p) (v : Within other q) (a : p.ascii ≡ true) (b : q.ascii ≡ true) (i : ℕ) (l : Level (value rec p) (value other q) i) (x y : ℕ) (t : (i < length (sent rec p)) × (i < length (sent other q)) × ((d : ℕ) → x ≡ get_or (sent rec p) i d) × ((d : ℕ) → y ≡ get_or (sent other q) i d)) where
+  in_first : i < p.width
+  in_first = omega (arith, t.0, sent_length rec p w)
+
+  in_second : i < q.width
+  in_second = omega (arith, t.1, sent_length other q v)
+
+  first_inside : i < length (value rec p)
+  first_inside = omega (arith, in_first, value_length rec p w)
+
+  second_inside : i < length (value other q)
+  second_inside = omega (arith, in_second, value_length other q v)
+
+  first_seen : ebcdic x ≡ get_or (value rec p) i 0
+  first_seen = ap ebcdic (t.2 0) ∙ ascii_at rec p i w a in_first
+
+  second_seen : ebcdic y ≡ get_or (value other q) i 0
+  second_seen = ap ebcdic (t.3 0) ∙ ascii_at other q i v b in_second
+
+  -- bytes that were sent alike are seen alike
+  pub ascii_alike : x ≡ y → (m : ℕ) → m ≡ i + 1 → Level (value rec p) (value other q) m
+  ascii_alike k m e =
+      rw e (level_alike (value rec p) (value other q) i l first_inside second_inside (ebcdic x) (ebcdic y) first_seen second_seen _ refl (ap ebcdic k))
+
+  -- o is the order of the two as they are seen
+  module _ (c d : ℕ) (ec : c ≡ ebcdic x) (ed : d ≡ ebcdic y) (o : Ordering) (e : o ≡ nat_cmp c d) where
+    pub ascii_next : o ≡ Equal → (m : ℕ) → m ≡ i + 1 → Level (value rec p) (value other q) m
+    ascii_next k m s = rw s (level_next (value rec p) (value other q) i l first_inside second_inside c d (ec ∙ first_seen) (ed ∙ second_seen) o e k)
+
+    pub ascii_apart : (o ≡ Equal → ⊥) → o ≡ order (value rec p) (value other q)
+    ascii_apart k = level_apart (value rec p) (value other q) i l first_inside second_inside c d (ec ∙ first_seen) (ed ∙ second_seen) o e k
+
 -- a test of translated bytes
 every_map : (q : ℕ → Bool) (xs : List ℕ) → every q (map ebcdic xs) ≡ every (λ (x : ℕ). q (ebcdic x)) xs
 unfolding every
@@ -64,34 +106,6 @@ unfolding every
 every_as q r e [] = refl
 every_as q r e (x ∷ xs) = rw (e x, every_as q r e xs)
 
--- one byte more is level
-pub sent_level : (rec : List ℕ) (p : Place) (other : List ℕ) (q : Place) (i s x y : ℕ) → Within rec p → Within other q → s ≡ min p.width q.width → i < s
-    → x ≡ get_or (sent rec p) i 0 → y ≡ get_or (sent other q) i 0 → x ≡ y → Level (sent rec p) (sent other q) i → Level (sent rec p) (sent other q) (i + 1)
-sent_level rec p other q i s x y w v e h ex ey k l =
-    level_next (sent rec p) (sent other q) i s p.width q.width (sent_length rec p w) (sent_length other q v) e x y h ex ey k l
-
--- two values in ASCII, byte by byte as they were sent
-module _ (rec : List ℕ) (p : Place) (other : List ℕ) (q : Place) (i s x y : ℕ) (w : Within rec p) (v : Within other q) (a : p.ascii ≡ true) (b : q.ascii ≡ true) (e : s ≡ min p.width q.width) (h : i < s) (ex : x ≡ get_or (sent rec p) i 0) (ey : y ≡ get_or (sent other q) i 0) (l : Level (value rec p) (value other q) i) where
-  seen_here : ebcdic x ≡ get_or (value rec p) i 0
-  seen_here = ap ebcdic ex ∙ ascii_at rec p i w a (omega arith)
-
-  seen_there : ebcdic y ≡ get_or (value other q) i 0
-  seen_there = ap ebcdic ey ∙ ascii_at other q i v b (omega arith)
-
-  -- bytes that were sent alike are seen alike
-  pub ascii_alike : x ≡ y → Level (value rec p) (value other q) (i + 1)
-  ascii_alike k = level_next (value rec p) (value other q) i s p.width q.width (value_length rec p w) (value_length other q v) e (ebcdic x) (ebcdic y) h seen_here seen_there (ap ebcdic k) l
-
-  module _ (c d : ℕ) (ec : c ≡ ebcdic x) (ed : d ≡ ebcdic y) where
-    pub ascii_next : c ≡ d → Level (value rec p) (value other q) (i + 1)
-    ascii_next k = level_next (value rec p) (value other q) i s p.width q.width (value_length rec p w) (value_length other q v) e c d h (ec ∙ seen_here) (ed ∙ seen_there) k l
-
-    pub ascii_before : c < d → Before ≡ order (value rec p) (value other q)
-    ascii_before k = level_before (value rec p) (value other q) i s p.width q.width (value_length rec p w) (value_length other q v) e c d h (ec ∙ seen_here) (ed ∙ seen_there) k l
-
-    pub ascii_after : (c ≡ d → ⊥) → d ≤ c → After ≡ order (value rec p) (value other q)
-    ascii_after u k = level_after (value rec p) (value other q) i s p.width q.width (value_length rec p w) (value_length other q v) e c d h (ec ∙ seen_here) (ed ∙ seen_there) u k l
-
 -- the place of all bytes
 pub whole_of : (bytes : List ℕ) → WholeOf bytes (record { start = 0; width = length bytes; ascii = false })
 unfolding Within value shown
@@ -99,13 +113,6 @@ whole_of bytes = record { within = omega arith; wide = refl; plain = refl; holds
 
 pub whole_sent : (bytes : List ℕ) (p : Place) → WholeOf bytes p → sent bytes p ≡ bytes
 whole_sent bytes p w = sym (plain_sent bytes p w.plain) ∙ w.holds
-
--- a byte that is another or not
-pub eq_none : (x y : ℕ) → x ≡ y → not (eqb x y) ≡ false
-eq_none x y e = ap not (eq-eqb x y e)
-
-pub ne_none : (x y : ℕ) → (x ≡ y → ⊥) → not (eqb x y) ≡ true
-ne_none x y d = ap not (ne_eqb x y d)
 
 -- one test of every byte, by one byte and what it is sent as
 tested_sent : (g : Bool → Bool) (rec : List ℕ) (p : Place) (b a w : ℕ) (r : Bool) → twins (a ∷ []) (b ∷ []) ≡ true → w ≡ choose p.ascii a b
@@ -130,38 +137,6 @@ only_sent rec p b a w r t e h = tested_sent (λ x. x) rec p b a w r t e h
 pub solid_sent : (rec : List ℕ) (p : Place) (w : ℕ) (r : Bool) → w ≡ choose p.ascii 0x20 0x40 → r ≡ every (λ (x : ℕ). not (eqb x w)) (sent rec p) → r ≡ solid (value rec p)
 unfolding solid twins ebcdic code_page
 solid_sent rec p w r e h = tested_sent not rec p 0x40 0x20 w r refl e h
-
--- the farthest byte so far and those from i on decide whether all are near a zero
-unfoldable pub Farthest : ℕ → List ℕ → ℕ → ℕ → ℕ → ℕ → Type 0
-Farthest z xs from to i most = every (near z) (slice from to xs) ≡ (leb most 9 and every (near z) (slice i to xs))
-
-pub farthest_none : (z : ℕ) (xs : List ℕ) (from to : ℕ) → Farthest z xs from to from 0
-unfolding Farthest ◌and◌
-farthest_none z xs from to = refl
-
-below_max : (a x y : ℕ) → leb (max x y) a ≡ (leb x a and leb y a)
-unfolding ◌and◌
-below_max a x y = go (leb x a) refl (leb y a) refl
-  where
-    go : (s : Bool) → leb x a ≡ s → (t : Bool) → leb y a ≡ t → leb (max x y) a ≡ (leb x a and leb y a)
-    go true e true f = rw (e, f) (le-leb (max x y) a (omega (arith, leb-true x a e, leb-true y a f)))
-    go true e false f = rw (e, f) (lt-leb (max x y) a (omega (arith, leb-false y a f)))
-    go false e t f = rw e (lt-leb (max x y) a (omega (arith, leb-false x a e)))
-
-pub farthest_next : (z : ℕ) (rec : List ℕ) (p : Place) (from to i most x r : ℕ) → Within rec p → i < to → to ≤ p.width → x ≡ get_or (value rec p) i 0
-    → r ≡ max (bit_xor x z) most → Farthest z (value rec p) from to i most → Farthest z (value rec p) from to (i + 1) r
-unfolding Farthest every near
-farthest_next z rec p from to i most x r w h k e t l =
-    let n : to ≤ length (value rec p) = omega (arith, value_length rec p w) in
-    l
-    ∙ rw (slice-cons i to (value rec p) 0, add-one, t, e, below_max 9 (bit_xor (get_or (value rec p) i 0) z) most)
-    (sym (and_swap (leb (bit_xor (get_or (value rec p) i 0) z) 9) (leb most 9) (every (near z) (slice (suc i) to (value rec p)))))
-
-pub farthest_end : (z : ℕ) (xs : List ℕ) (from to i most : ℕ) → i ≤ to → to ≤ i → Farthest z xs from to i most → leb most 9 ≡ every (near z) (slice from to xs)
-unfolding Farthest every
-farthest_end z xs from to i most h k l =
-    let n : i ≡ to = omega arith in
-    sym (l ∙ rw (n, slice_empty) (and_true (leb most 9)))
 
 -- digits: the bytes that differ from zero by at most 9
 agree : Bool → Bool → Bool
@@ -264,10 +239,24 @@ module _ (rec : List ℕ) (p : Place) (i s : ℕ) (w : Within rec p) (k : i < p.
   pub seen_byte : get_or (value rec p) i 0 ≡ shown_byte p.ascii s
   seen_byte = ap (λ (xs : List ℕ). get_or xs i 0) (value_sent rec p) ∙ shown_at p.ascii (sent rec p) i (omega (arith, value_length rec (plain p) (within_plain rec p w))) ∙ ap (shown_byte p.ascii) (sym e)
 
-pub digit_told : (rec : List ℕ) (p : Place) (from to i s : ℕ) → Within rec p → from ≤ i → i < to → to ≤ p.width → digits (slice from to (value rec p)) ≡ true → s ≡ get_or (sent rec p) i 0
-    → (s % 16 ≡ get_or (value rec p) i 0 - 0xF0) × (s % 16 ≤ 9)
-digit_told rec p from to i s w l h k d e =
-    counts p.ascii s (get_or (value rec p) i 0) (digit_at rec p from to i (get_or (value rec p) i 0) w k l h d refl) (seen_byte rec p i s w (omega arith) e)
+-- a byte of a part that is digits
+module _ (rec : List ℕ) (p : Place) (w : Within rec p) (from to : ℕ) (h : from ≤ to) (k : to ≤ p.width) (bytes : List ℕ) (e : bytes ≡ sent rec p) where
+  pub part_length : length (take (to - from) (drop from bytes)) ≡ to - from
+  part_length = simp (length-take, length-drop) (omega (arith, ap length e, sent_length rec p w))
+
+  module _ (i : ℕ) (l : i < length (take (to - from) (drop from bytes))) where
+    part_at : get_or (take (to - from) (drop from bytes)) i 0 ≡ get_or (sent rec p) (from + i) 0
+    part_at =
+        let n : i < to - from = omega (arith, part_length) in
+        get_or-take (to - from) (drop from bytes) i 0 n ∙ get_or-drop from bytes i 0 ∙ ap (λ (xs : List ℕ). get_or xs (from + i) 0) e
+
+    pub digit_told : digits (slice from to (value rec p)) ≡ true → (d : ℕ) → d ≡ get_or (take (to - from) (drop from bytes)) i 0 % 16
+        → (d ≡ get_or (value rec p) (from + i) 0 - 0xF0) × (d ≤ 9)
+    digit_told g d q =
+        let n : from + i < to = omega (arith, part_length) in
+        let b = get_or (take (to - from) (drop from bytes)) i 0 in
+        let t = counts p.ascii b (get_or (value rec p) (from + i) 0) (digit_at rec p from to (from + i) (get_or (value rec p) (from + i) 0) w k (omega arith) n g refl) (seen_byte rec p (from + i) b w (omega arith) part_at) in
+        (q ∙ t.0, omega (arith, q, t.1))
 
 -- one byte
 pub byte_told : (rec : List ℕ) (p : Place) (i s b a w : ℕ) (r : Bool) → Within rec p → i < p.width → twins (a ∷ []) (b ∷ []) ≡ true → w ≡ choose p.ascii a b → s ≡ get_or (sent rec p) i 0
@@ -280,26 +269,6 @@ byte_told rec p i s b a w r k l t e f h = h ∙ go p.ascii refl ∙ ap (λ (x : 
     go false q = let v : w ≡ b = rw q at e in rw (q, v)
 
 -- the byte rule of ASCII
-unfoldable pub LowPrintable : List ℕ → ℕ → ℕ → Type 0
-LowPrintable xs i low = least_printable 0xFF xs ≡ least_printable low (drop i xs)
-
-pub low_none : (xs : List ℕ) → LowPrintable xs 0 0xFF
-unfolding LowPrintable
-low_none xs = refl
-
-pub low_next : (rec : List ℕ) (p : Place) (i low x y r : ℕ) → Within rec p → i < p.width → x ≡ get_or (value rec p) i 0 → y ≡ choose (leb x 0x7E) x 0 → r ≡ min y low
-    → LowPrintable (value rec p) i low → LowPrintable (value rec p) (i + 1) r
-unfolding LowPrintable least_printable
-low_next rec p i low x y r w h e f t l =
-    let n : i < length (value rec p) = omega (arith, value_length rec p w) in
-    l ∙ rw (add-one, drop-cons (value rec p) i 0, t, f, e)
-
-pub low_end : (rec : List ℕ) (p : Place) (i low : ℕ) → Within rec p → p.width ≤ i → LowPrintable (value rec p) i low → low ≡ least_printable 0xFF (value rec p)
-unfolding LowPrintable least_printable
-low_end rec p i low w h l =
-    let n : length (value rec p) ≤ i = omega (arith, value_length rec p w) in
-    sym (l ∙ rw drop_of_length-le)
-
 tested : (x : ℕ) → leb 0x20 (choose (leb x 0x7E) x 0) ≡ (leb 0x20 x && leb x 0x7E)
 unfolding choose
 tested x = go (leb x 0x7E) refl (leb 0x20 x) refl
@@ -356,9 +325,6 @@ text_sent rec p text ascii w r t e h = go p.ascii refl
         h ∙ rw (v, plain_sent rec p q)
 
 -- what their order says of their being the same
-pub order_alike : (xs ys : List ℕ) (r : Order) → r ≡ order xs ys → r ≡ Same → true ≡ alike xs ys
-order_alike xs ys r e f = rw (order_equal xs ys (sym e ∙ f)) (sym (alike_self ys))
-
 apart : (xs ys : List ℕ) → (xs ≡ ys → ⊥) → false ≡ alike xs ys
 apart xs ys d = go (alike xs ys) refl
   where
@@ -366,8 +332,7 @@ apart xs ys d = go (alike xs ys) refl
     go true e = absurd (d (alike_equal xs ys e))
     go false e = sym e
 
-pub order_before : (xs ys : List ℕ) (r : Order) → r ≡ order xs ys → r ≡ Before → false ≡ alike xs ys
-order_before xs ys r e f = apart xs ys (before_not xs ys (sym e ∙ f))
-
-pub order_after : (xs ys : List ℕ) (r : Order) → r ≡ order xs ys → r ≡ After → false ≡ alike xs ys
-order_after xs ys r e f = apart xs ys (after_not xs ys (sym e ∙ f))
+pub order_alike : (xs ys : List ℕ) (r : Ordering) → r ≡ order xs ys → is_eq r ≡ alike xs ys
+order_alike xs ys Less e = apart xs ys (before_not xs ys (sym e))
+order_alike xs ys Equal e = rw (order_equal xs ys (sym e)) (sym (alike_self ys))
+order_alike xs ys Greater e = apart xs ys (after_not xs ys (sym e))

@@ -1,6 +1,8 @@
 -- Each public function's contract allows one result for the same arguments: stated over the contract itself.
 -- Assumes nothing.
-use mathlib.Core.Path.{◌≡◌, sym, ◌∙◌}
+use mathlib.Core.Path.{◌≡◌, refl, sym, ap, ◌∙◌}
+use mathlib.Core.Bool.{true≢false}
+use Rattle.std.specs.Prelude.{None, Some, option_copied}
 use Rattle.record.proofs.field_blank.Reads as field-blank
 use Rattle.record.proofs.field_zeros.Reads as field-zeros
 use Rattle.record.proofs.field_is.Reads as field_is
@@ -9,6 +11,7 @@ use Rattle.record.proofs.field_solid.Reads as field-solid
 use Rattle.record.proofs.field_number.Reads as field-number
 use Rattle.record.proofs.copy_field.Reads as copy-field
 use Rattle.record.proofs.part_number.Reads as part-number
+use Rattle.record.proofs.field_array.Reads as field-array
 use Rattle.record.proofs.fields_same.Reads as fields-same
 use Rattle.record.proofs.fields_order.Reads as fields-order
 use Rattle.record.proofs.field_order.Reads as field-order
@@ -48,10 +51,17 @@ field_solid_unique κs a r s x y p q = p ∙ sym q
 pub field_number_unique : OneResult field-number.Post
 field_number_unique κs a r s x y p q = p ∙ sym q
 
--- behind three arguments, `.0` is the copy
-pub field_part_unique : (κs : _) (a : _) (r s : _) (x y : _) → field-part.Post κs a r x → field-part.Post κs a s y → r.now ≡ s.now
-field_part_unique κs a r s x y p q = p ∙ sym q
+-- the part, or none
+pub field_part_unique : (κs : _) (a : _) (r s : _) (x y : _) → field-part.Post κs a r x → field-part.Post κs a s y → option_copied r ≡ option_copied s
+field_part_unique κs a None None x y p q = refl
+field_part_unique κs a None (Some v) x y p q = absurd (true≢false (sym q.0 ∙ p))
+field_part_unique κs a (Some u) None x y p q = absurd (true≢false (sym p.0 ∙ q))
+field_part_unique κs a (Some u) (Some v) x y p q = ap Some (p.1 ∙ sym q.1)
 
+pub field_array_unique : (width : _) (fits : _) → OneResult (field-array.Post width fits)
+field_array_unique width fits κs a r s x y p q = p ∙ sym q
+
+-- behind three arguments, `.0` is the copy
 pub copy_field_unique : (κs : _) (a : _) (r s : _) (x y : _) → copy-field.Post κs a r x → copy-field.Post κs a s y → x.1.1.1.0.now ≡ y.1.1.1.0.now
 copy_field_unique κs a r s x y p q = p ∙ sym q
 

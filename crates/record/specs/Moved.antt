@@ -1,17 +1,15 @@
 -- Where a value stands that has to be moved (02 W3): zeros, a part of the record, and blanks. Of the promises to other crates `field_part`'s alone names any of it: when its part is empty.
-use Rattle.std.specs.Prelude.{ℕ, ◌+◌, ◌-◌, ◌≤◌, ◌≡◌, Bool, true, not, List, ◌++◌, eqb, length, get_or, replicate}
+use Rattle.std.specs.Prelude.{ℕ, ◌+◌, ◌-◌, ◌≤◌, ◌≡◌, Bool, true, false, not, Option, MatchOption, List, ◌++◌, eqb, length, get_or, replicate}
 use Rattle.record.specs.declared.Justification.{Justification}
 use Rattle.record.specs.declared.Justification.TheVariants.{Text, Number, Right, Fixed}
 use Rattle.record.specs.declared.Field.{Field}
 use Rattle.record.specs.declared.Line.{Line}
 use Rattle.record.specs.declared.place.Place.{Place}
 use Rattle.record.specs.declared.moved.Moved.{Moved}
-use Rattle.record.specs.declared.moved.Test.{Test}
-use Rattle.record.specs.declared.moved.Test.TheVariants.{Zero, Digit, Filled}
 use Rattle.record.specs.Choice.{◌and◌, choose}
 use Rattle.record.specs.Correction.{corrected}
 use Rattle.record.specs.Place.{Within, value, sent}
-use Rattle.record.specs.Tests.{digit}
+use Rattle.record.specs.Tests.{every}
 use Rattle.record.specs.Value.{written}
 
 -- the byte is no blank
@@ -72,11 +70,11 @@ pub record Found (rec : List ℕ) (p : Place) (j : Justification) (m : Moved) : 
   pub wide : m.width ≡ p.width
   pub holds : moved_value rec m ≡ corrected j (value rec p)
 
--- what every byte of a value is asked: to be a zero, a digit, no blank
-unfoldable pub test_of : Test → ℕ → Bool
-test_of Zero = λ (x : ℕ). eqb x 0xF0
-test_of Digit = digit
-test_of Filled = λ (x : ℕ). filled x
+-- what `deciding` promises of a value: a test that no blank passes fails, or asks of the value what it asks of this part, if a zero passes it
+abbrev pub Deciding : List ℕ → List ℕ → Option Place → Type 0
+Deciding rec xs o =
+    MatchOption o ((q : ℕ → Bool) → q 0x40 ≡ false → every q xs ≡ false)
+    (λ p. Within rec p × ((q : ℕ → Bool) → q 0xF0 ≡ true → every q xs ≡ every q (value rec p)))
 
 -- what the field holds is a part of the record: nothing is translated, and its ends show that nothing is moved
 unfoldable pub readable : Line → Field → List ℕ → Bool

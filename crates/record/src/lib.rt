@@ -7,20 +7,21 @@ mod moved;
 mod place;
 pub mod routing;
 
-ghost use Rattle.std.specs.Prelude.{◌≡◌, true, not, [], ◌∷◌, ◌-◌, ◌<◌, ◌≤◌, eqb, length, get_or};
+ghost use Rattle.std.specs.Prelude.{◌≡◌, true, false, [], ◌∷◌, ◌-◌, ◌<◌, ◌≤◌, eqb, length, get_or, MatchOption};
 ghost use Rattle.std.proofs.Math.Seq.{slice};
 ghost use Rattle.page.specs.CodePage.{twins};
-ghost use Rattle.record.specs.Choice.{◌and◌, choose};
+ghost use Rattle.record.specs.Choice.{◌and◌};
 ghost use Rattle.record.specs.Moved.{readable};
 ghost use Rattle.record.specs.Value.{Has, seen, written, held};
 ghost use Rattle.record.specs.Tests.{blank, zeros, digits, solid, valid, alike};
 ghost use Rattle.record.specs.Numeral.{numeral};
 ghost use Rattle.record.specs.Ordering.{order};
 
-use moved::{Test, stands};
+use moved::stands;
+use std::cmp::Ordering;
 
 // How a field's justification is corrected (02 W3, 004 section 1.7).
-#[derive(Clone, Copy)]
+#[derive(Clone, Copy, PartialEq, Eq)]
 pub enum Justification {
     Text,
     Number,
@@ -29,7 +30,7 @@ pub enum Justification {
 }
 
 // Where document 004 puts a field: its start position, counted from 1, and its length; and how its justification is corrected.
-#[derive(Clone, Copy)]
+#[derive(Clone, Copy, PartialEq, Eq)]
 pub struct Field {
     pub start: usize,
     pub width: usize,
@@ -41,14 +42,6 @@ pub struct Field {
 pub struct Line {
     pub number: usize,
     pub ascii: bool,
-}
-
-// How a value stands to another in the order of bytes.
-#[derive(Clone, Copy)]
-pub enum Order {
-    Before,
-    Same,
-    After,
 }
 
 // The field is all blank. Moving does not change that.
@@ -66,12 +59,13 @@ pub fn field_zeros(rec: &[u8], line: Line, field: Field) -> bool
     ensures { result ≡ zeros (held (seen line rec.now) field) }
 {
     let place = place::locate(rec, line, field);
-    let justification = field.justification;
-    if stands(rec, place, justification) {
+    if stands(rec, place, field.justification) {
         return place::is_only(rec, place, 0xF0, 0x30);
     }
-    let there = place::locate(rec, line, field);
-    moved::has_all(&rec[..], there, justification, Test::Zero)
+    match moved::deciding(rec, place, field.justification) {
+        Some(kept) => place::is_only(rec, kept, 0xF0, 0x30),
+        None => false,
+    }
 }
 
 // The field is all digits. Bytes that are digits stand where they belong.
@@ -80,13 +74,13 @@ pub fn field_digits(rec: &[u8], line: Line, field: Field) -> bool
     ensures { result ≡ digits (held (seen line rec.now) field) }
 {
     let place = place::locate(rec, line, field);
-    let width = field.width;
-    if place::are_digits(rec, place, 0, width) {
+    if place::are_digits(rec, place, 0, field.width) {
         return true;
     }
-    let there = place::locate(rec, line, field);
-    let justification = field.justification;
-    moved::has_all(&rec[..], there, justification, Test::Digit)
+    match moved::deciding(rec, place, field.justification) {
+        Some(kept) => place::are_digits(rec, kept, 0, kept.width),
+        None => false,
+    }
 }
 
 // No byte of the field is blank. Bytes of which none is stand where they belong.
@@ -98,9 +92,10 @@ pub fn field_solid(rec: &[u8], line: Line, field: Field) -> bool
     if place::is_solid(rec, place) {
         return true;
     }
-    let there = place::locate(rec, line, field);
-    let justification = field.justification;
-    moved::has_all(&rec[..], there, justification, Test::Filled)
+    match moved::deciding(rec, place, field.justification) {
+        Some(kept) => place::is_solid(rec, kept),
+        None => false,
+    }
 }
 
 // The field holds this text, byte for byte; ASCII files send it as the second.
@@ -109,24 +104,18 @@ pub fn field_is<'a>(rec: &[u8], line: Line, field: Field, text: &'a [u8], ascii:
     ensures { result ≡ alike (held (seen line rec.now) field) text.now }
 {
     let place = place::locate(rec, line, field);
-    let justification = field.justification;
-    if stands(rec, place, justification) {
+    if stands(rec, place, field.justification) {
         return place::is_text(rec, place, text, ascii);
     }
-    let there = place::locate(rec, line, field);
-    let whole = place::whole(text);
-    match moved::compare(
-        &rec[..],
-        there,
-        justification,
-        &text[..],
-        whole,
+    moved::compare(
+        rec,
+        place,
+        field.justification,
+        text,
+        place::whole(text),
         Justification::Fixed,
-    ) {
-        Order::Before => false,
-        Order::Same => true,
-        Order::After => false,
-    }
+    )
+    .is_eq()
 }
 
 // The number of a field of at most 18 digits.
@@ -135,13 +124,10 @@ pub fn field_number(rec: &[u8], line: Line, field: Field) -> u64
     ensures { result ≡ numeral (held (seen line rec.now) field) }
 {
     let place = place::locate(rec, line, field);
-    let width = field.width;
-    let justification = field.justification;
-    if stands(rec, place, justification) {
-        return place::number(rec, place, 0, width);
+    if stands(rec, place, field.justification) {
+        return place::number(rec, place, 0, field.width);
     }
-    let there = place::locate(rec, line, field);
-    moved::number(&rec[..], there, justification, 0, width)
+    moved::number(rec, place, field.justification, 0, field.width)
 }
 
 // The number that the bytes from `from` up to `to` write, at most 18 of them, of a field of digits.
@@ -150,12 +136,10 @@ pub fn part_number(rec: &[u8], line: Line, field: Field, from: usize, to: usize)
     ensures { result ≡ numeral (slice from to (held (seen line rec.now) field)) }
 {
     let place = place::locate(rec, line, field);
-    let justification = field.justification;
-    if stands(rec, place, justification) {
+    if stands(rec, place, field.justification) {
         return place::number(rec, place, from, to);
     }
-    let there = place::locate(rec, line, field);
-    moved::number(&rec[..], there, justification, from, to)
+    moved::number(rec, place, field.justification, from, to)
 }
 
 // What the field holds is a part of the record: nothing is translated, and its ends show that nothing is moved.
@@ -163,12 +147,7 @@ fn is_readable(rec: &[u8], line: Line, field: Field) -> bool
     requires { Has rec.now field }
     ensures { result ≡ readable line field rec.now }
 {
-    if line.ascii {
-        return false;
-    }
-    let place = place::locate(rec, line, field);
-    let justification = field.justification;
-    stands(rec, place, justification)
+    !line.ascii && stands(rec, place::locate(rec, line, field), field.justification)
 }
 
 // The same of two records.
@@ -176,23 +155,19 @@ fn are_readable(rec: &[u8], line: Line, other: &[u8], other_line: Line, field: F
     requires { Has rec.now field × Has other.now field }
     ensures { result ≡ (readable line field rec.now and readable other_line field other.now) }
 {
-    if is_readable(rec, line, field) {
-        return is_readable(other, other_line, field);
-    }
-    false
+    is_readable(rec, line, field) && is_readable(other, other_line, field)
 }
 
-// The part of the record that is what the field holds, or an empty part where it has to be translated or moved.
-pub fn field_part<'a>(rec: &'a [u8], line: Line, field: Field) -> &'a [u8]
+// The part of the record that is what the field holds; none where it has to be translated or moved.
+pub fn field_part(rec: &[u8], line: Line, field: Field) -> Option<&[u8]>
     requires { Has rec.now field }
-    ensures { result.now ≡ choose (not (readable line field rec.now)) [] (held (seen line rec.now) field) }
+    ensures { MatchOption result (readable line field rec.now ≡ false) (λ part. (readable line field rec.now ≡ true) × (part.now ≡ held (seen line rec.now) field)) }
 {
-    if is_readable(rec, line, field) {
-        let start = field.start - 1;
-        let end = start + field.width;
-        return &rec[start..end];
+    if !is_readable(rec, line, field) {
+        return None;
     }
-    &rec[0..0]
+    let start = field.start - 1;
+    Some(&rec[start..start + field.width])
 }
 
 // Copies what the field holds.
@@ -200,19 +175,26 @@ pub fn copy_field(rec: &[u8], line: Line, field: Field, to: &mut [u8])
     requires { Has rec.now field × (length to.old ≡ field.width) }
     ensures { to.new ≡ held (seen line rec.now) field }
 {
-    let justification = field.justification;
+    let place = place::locate(rec, line, field);
     if line.ascii {
-        let there = place::locate(rec, line, field);
-        moved::copy(&rec[..], there, justification, &mut to[..]);
+        moved::copy(rec, place, field.justification, to);
         return;
     }
-    let place = place::locate(rec, line, field);
-    if stands(rec, place, justification) {
+    if stands(rec, place, field.justification) {
         place::copy_sent(rec, place, to);
         return;
     }
-    let there = place::locate(rec, line, field);
-    moved::copy(&rec[..], there, justification, &mut to[..]);
+    moved::copy(rec, place, field.justification, to);
+}
+
+// A copy of what the field holds.
+pub fn field_array<const N: usize>(rec: &[u8], line: Line, field: Field) -> [u8; N]
+    requires { Has rec.now field × (field.width ≡ N) }
+    ensures { result ≡ held (seen line rec.now) field }
+{
+    let mut copy = [0; N];
+    copy_field(rec, line, field, &mut copy);
+    copy
 }
 
 // The field holds the same in two records.
@@ -220,70 +202,64 @@ pub fn fields_same(rec: &[u8], line: Line, other: &[u8], other_line: Line, field
     requires { Has rec.now field × Has other.now field }
     ensures { result ≡ alike (held (seen line rec.now) field) (held (seen other_line other.now) field) }
 {
-    let justification = field.justification;
+    let place = place::locate(rec, line, field);
+    let beside = place::locate(other, other_line, field);
     if are_readable(rec, line, other, other_line, field) {
-        let place = place::locate(rec, line, field);
-        let beside = place::locate(other, other_line, field);
         return place::sent_same(rec, place, other, beside);
     }
-    let here = place::locate(rec, line, field);
-    let there = place::locate(other, other_line, field);
-    match moved::compare(
-        &rec[..],
-        here,
-        justification,
-        &other[..],
-        there,
-        justification,
-    ) {
-        Order::Before => false,
-        Order::Same => true,
-        Order::After => false,
-    }
+    moved::compare(
+        rec,
+        place,
+        field.justification,
+        other,
+        beside,
+        field.justification,
+    )
+    .is_eq()
 }
 
 // How what the field holds stands, in the order of bytes, to what it holds in another record.
-pub fn fields_order(rec: &[u8], line: Line, other: &[u8], other_line: Line, field: Field) -> Order
+pub fn fields_order(
+    rec: &[u8],
+    line: Line,
+    other: &[u8],
+    other_line: Line,
+    field: Field,
+) -> Ordering
     requires { Has rec.now field × Has other.now field }
     ensures { result ≡ order (held (seen line rec.now) field) (held (seen other_line other.now) field) }
 {
-    let justification = field.justification;
+    let place = place::locate(rec, line, field);
+    let beside = place::locate(other, other_line, field);
     if are_readable(rec, line, other, other_line, field) {
-        let place = place::locate(rec, line, field);
-        let beside = place::locate(other, other_line, field);
         return place::sent_order(rec, place, other, beside);
     }
-    let here = place::locate(rec, line, field);
-    let there = place::locate(other, other_line, field);
     moved::compare(
-        &rec[..],
-        here,
-        justification,
-        &other[..],
-        there,
-        justification,
+        rec,
+        place,
+        field.justification,
+        other,
+        beside,
+        field.justification,
     )
 }
 
 // How what the field holds stands to these bytes.
-pub fn field_order(rec: &[u8], line: Line, field: Field, bytes: &[u8]) -> Order
+pub fn field_order(rec: &[u8], line: Line, field: Field, bytes: &[u8]) -> Ordering
     requires { Has rec.now field }
     ensures { result ≡ order (held (seen line rec.now) field) bytes.now }
 {
-    let justification = field.justification;
+    let place = place::locate(rec, line, field);
+    let beside = place::whole(bytes);
     if is_readable(rec, line, field) {
-        let place = place::locate(rec, line, field);
-        let beside = place::whole(bytes);
         return place::sent_order(rec, place, bytes, beside);
     }
-    let here = place::locate(rec, line, field);
-    let there = place::whole(bytes);
     moved::compare(
-        &rec[..],
-        here,
-        justification,
-        &bytes[..],
-        there,
+        rec,
+        place,
+        field.justification,
+        bytes,
+        beside,
         Justification::Fixed,
     )
 }

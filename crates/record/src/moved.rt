@@ -5,14 +5,15 @@ ghost use Rattle.std.proofs.Math.Seq.{slice};
 ghost use Rattle.record.specs.declared.Justification.TheVariants.{Number};
 ghost use Rattle.record.specs.Correction.{from_first, up_to_last, corrected};
 ghost use Rattle.record.specs.Place.{Within, value};
-ghost use Rattle.record.specs.Moved.{filled, in_front, in_back, in_place, Fits, moved_sent, moved_value, Found, part_of, left_of, right_of, test_of};
-ghost use Rattle.record.specs.Tests.{every, digits};
+ghost use Rattle.record.specs.Moved.{filled, in_front, in_back, in_place, Fits, moved_sent, moved_value, Found, Deciding, part_of, left_of, right_of};
+ghost use Rattle.record.specs.Tests.{digits};
 ghost use Rattle.record.specs.Numeral.{numeral};
 ghost use Rattle.record.specs.Ordering.{order};
 
 use crate::place::Place;
-use crate::{Justification, Order, place};
+use crate::{Justification, place};
 use page::{translate, translate_all};
+use std::cmp::Ordering;
 
 // A value: zeros, a part of the record, and blanks up to the value's width.
 #[derive(Clone, Copy)]
@@ -37,12 +38,7 @@ fn begins(rec: &[u8], place: Place, justification: Justification) -> bool
 {
     match justification {
         Justification::Fixed => true,
-        _ => {
-            if place.width == 0 {
-                return false;
-            }
-            is_filled(rec, place, 0)
-        }
+        _ => place.width > 0 && is_filled(rec, place, 0),
     }
 }
 
@@ -52,15 +48,8 @@ fn ends(rec: &[u8], place: Place, justification: Justification) -> bool
     ensures { result ≡ in_back justification (value rec.now place) }
 {
     match justification {
-        Justification::Fixed => true,
-        Justification::Text => true,
-        _ => {
-            if place.width == 0 {
-                return false;
-            }
-            let last = place.width - 1;
-            is_filled(rec, place, last)
-        }
+        Justification::Fixed | Justification::Text => true,
+        _ => place.width > 0 && is_filled(rec, place, place.width - 1),
     }
 }
 
@@ -69,10 +58,7 @@ pub(crate) fn stands(rec: &[u8], place: Place, justification: Justification) -> 
     requires { Within rec.now place }
     ensures { result ≡ in_place justification (value rec.now place) }
 {
-    if begins(rec, place, justification) {
-        return ends(rec, place, justification);
-    }
-    false
+    begins(rec, place, justification) && ends(rec, place, justification)
 }
 
 // How many blanks stand in front.
@@ -80,15 +66,12 @@ fn lead(rec: &[u8], place: Place) -> usize
     requires { Within rec.now place }
     ensures { (from_first (value rec.now place) ≡ drop result (value rec.now place)) × (result ≤ place.width) }
 {
-    let n = place.width;
-    let mut i = 0;
-    while i < n {
+    for i in 0..place.width {
         if is_filled(rec, place, i) {
             return i;
         }
-        i += 1;
     }
-    i
+    place.width
 }
 
 // Where what begins at `from` ends, the blanks behind it left out.
@@ -96,15 +79,12 @@ fn tail(rec: &[u8], place: Place, from: usize) -> usize
     requires { Within rec.now place × (from ≤ place.width) }
     ensures { (up_to_last (drop from (value rec.now place)) ≡ slice from result (value rec.now place)) × (from ≤ result) × (result ≤ place.width) }
 {
-    let mut end = place.width;
-    while from < end {
-        let last = end - 1;
+    for last in (from..place.width).rev() {
         if is_filled(rec, place, last) {
-            return end;
+            return last + 1;
         }
-        end -= 1;
     }
-    end
+    from
 }
 
 // The part of a place from one byte up to another.
@@ -112,11 +92,9 @@ fn part(place: Place, from: usize, to: usize) -> Place
     requires { (from ≤ to) × (place.start + from < 18446744073709551616) }
     ensures { result ≡ part_of place from to }
 {
-    let start = place.start + from;
-    let width = to - from;
     Place {
-        start,
-        width,
+        start: place.start + from,
+        width: to - from,
         ascii: place.ascii,
     }
 }
@@ -126,12 +104,10 @@ fn move_left(place: Place, from: usize) -> Moved
     requires { (from ≤ place.width) × (place.start + from < 18446744073709551616) }
     ensures { result ≡ left_of place from }
 {
-    let width = place.width;
-    let kept = part(place, from, width);
     Moved {
         zeros: 0,
-        kept,
-        width,
+        kept: part(place, from, place.width),
+        width: place.width,
     }
 }
 
@@ -140,10 +116,11 @@ fn move_right(place: Place, from: usize, to: usize) -> Moved
     requires { (from ≤ to) × (to ≤ place.width) × (place.start + from < 18446744073709551616) }
     ensures { result ≡ right_of place from to }
 {
-    let width = place.width;
-    let zeros = width - (to - from);
-    let kept = part(place, from, to);
-    Moved { zeros, kept, width }
+    Moved {
+        zeros: place.width - (to - from),
+        kept: part(place, from, to),
+        width: place.width,
+    }
 }
 
 // A number that begins at `from`: one run of digits is padded with zeros, any other shape is moved like text.
@@ -199,56 +176,25 @@ fn byte(rec: &[u8], moved: Moved, i: usize) -> u8
     requires { Fits rec.now moved × (i < moved.width) }
     ensures { result ≡ get_or (moved_value rec.now moved) i 0 }
 {
-    let kept = moved.kept;
     let sent = sent_byte(rec, moved, i);
-    if kept.ascii {
-        return translate(sent);
-    }
-    sent
-}
-
-// What every byte of a value is asked.
-#[derive(Clone, Copy)]
-pub(crate) enum Test {
-    Zero,
-    Digit,
-    Filled,
-}
-
-// Every byte at the place passes the test.
-fn passes(rec: &[u8], place: Place, test: Test) -> bool
-    requires { Within rec.now place }
-    ensures { result ≡ every (test_of test) (value rec.now place) }
-{
-    let width = place.width;
-    match test {
-        Test::Zero => place::is_only(rec, place, 0xF0, 0x30),
-        Test::Digit => place::are_digits(rec, place, 0, width),
-        Test::Filled => place::is_solid(rec, place),
+    if moved.kept.ascii {
+        translate(sent)
+    } else {
+        sent
     }
 }
 
-// Every byte of the value passes the test. Zeros pass every test and blanks none, so that the part decides where no blank follows it.
-pub(crate) fn has_all(rec: &[u8], place: Place, justification: Justification, test: Test) -> bool
+// The part that decides whether every byte of the value passes a test that a zero passes and a blank fails: the value's own bytes, where no blank
+// follows them. Where one does, none: the value fails.
+pub(crate) fn deciding(rec: &[u8], place: Place, justification: Justification) -> Option<Place>
     requires { Within rec.now place }
-    ensures { result ≡ every (test_of test) (corrected justification (value rec.now place)) }
+    ensures { Deciding rec.now (corrected justification (value rec.now place)) result }
 {
     let moved = find(rec, place, justification);
-    let kept = moved.kept;
-    if moved.zeros + kept.width < moved.width {
-        return false;
+    if moved.zeros + moved.kept.width < moved.width {
+        return None;
     }
-    passes(rec, kept, test)
-}
-
-// What is left of `n` behind the zeros.
-fn behind(zeros: usize, n: usize) -> usize
-    ensures { result ≡ n - zeros }
-{
-    if n < zeros {
-        return 0;
-    }
-    n - zeros
+    Some(moved.kept)
 }
 
 // The number that the value's digits from `from` up to `to` write. Zeros count nothing, so that the part's digits are read.
@@ -263,10 +209,9 @@ pub(crate) fn number(
     ensures { result ≡ numeral (slice from to (corrected justification (value rec.now place))) }
 {
     let moved = find(rec, place, justification);
-    let kept = moved.kept;
-    let begin = behind(moved.zeros, from);
-    let end = behind(moved.zeros, to);
-    place::number(rec, kept, begin, end)
+    let begin = from.saturating_sub(moved.zeros);
+    let end = to.saturating_sub(moved.zeros);
+    place::number(rec, moved.kept, begin, end)
 }
 
 // Copies the value as it was sent or would have been.
@@ -274,11 +219,8 @@ fn copy_sent(rec: &[u8], moved: Moved, to: &mut [u8])
     requires { Fits rec.now moved × (length to.old ≡ moved.width) }
     ensures { to.new ≡ moved_sent rec.now moved }
 {
-    let n = moved.width;
-    let mut i = 0;
-    while i < n {
-        to[i] = sent_byte(rec, moved, i);
-        i += 1;
+    for (i, byte) in to.iter_mut().enumerate() {
+        *byte = sent_byte(rec, moved, i);
     }
 }
 
@@ -292,40 +234,24 @@ pub(crate) fn copy(rec: &[u8], place: Place, justification: Justification, to: &
         return;
     }
     let moved = find(rec, place, justification);
-    let kept = moved.kept;
     copy_sent(rec, moved, to);
-    if kept.ascii {
+    if moved.kept.ascii {
         translate_all(to);
     }
 }
 
 // How the first value stands to the second in the order of bytes.
-fn shown_order(rec: &[u8], moved: Moved, other: &[u8], there: Moved) -> Order
+fn shown_order(rec: &[u8], moved: Moved, other: &[u8], there: Moved) -> Ordering
     requires { Fits rec.now moved × Fits other.now there }
     ensures { result ≡ order (moved_value rec.now moved) (moved_value other.now there) }
 {
-    let n = moved.width;
-    let m = there.width;
-    let shared = place::shorter(n, m);
-    let mut i = 0;
-    while i < shared {
-        let a = byte(rec, moved, i);
-        let b = byte(other, there, i);
-        if a != b {
-            if a < b {
-                return Order::Before;
-            }
-            return Order::After;
+    for i in 0..moved.width.min(there.width) {
+        match byte(rec, moved, i).cmp(&byte(other, there, i)) {
+            Ordering::Equal => {}
+            apart => return apart,
         }
-        i += 1;
     }
-    if n < m {
-        return Order::Before;
-    }
-    if m < n {
-        return Order::After;
-    }
-    Order::Same
+    moved.width.cmp(&there.width)
 }
 
 // The same of values that are found first, unless both are ASCII and stand where they belong.
@@ -336,16 +262,16 @@ pub(crate) fn compare(
     other: &[u8],
     there: Place,
     other_justification: Justification,
-) -> Order
+) -> Ordering
     requires { Within rec.now place × Within other.now there }
     ensures { result ≡ order (corrected justification (value rec.now place)) (corrected other_justification (value other.now there)) }
 {
-    if place::are_ascii(place, there) {
-        if stands(rec, place, justification) {
-            if stands(other, there, other_justification) {
-                return place::ascii_order(rec, place, other, there);
-            }
-        }
+    if place.ascii
+        && there.ascii
+        && stands(rec, place, justification)
+        && stands(other, there, other_justification)
+    {
+        return place::ascii_order(rec, place, other, there);
     }
     let moved = find(rec, place, justification);
     let beside = find(other, there, other_justification);

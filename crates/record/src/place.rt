@@ -10,8 +10,9 @@ ghost use Rattle.record.specs.Numeral.{numeral};
 ghost use Rattle.record.specs.Ordering.{order};
 ghost use Rattle.record.specs.Tests.{least_from};
 
-use crate::{Field, Line, Order};
+use crate::{Field, Line};
 use page::{translate, translate_all};
+use std::cmp::Ordering;
 
 // Where a value stands: its first byte, counted from 0, how many there are, and whether they are ASCII.
 #[derive(Clone, Copy)]
@@ -49,20 +50,25 @@ pub(crate) fn sent_byte(rec: &[u8], place: Place, i: usize) -> u8
     requires { Within rec.now place × (i < place.width) }
     ensures { result ≡ get_or (sent rec.now place) i 0 }
 {
-    let at = place.start + i;
-    rec[at]
+    rec[place.start + i]
 }
 
-// Copies the bytes at the place, as they were sent.
+// The bytes at the place, as they were sent.
+fn sent(rec: &[u8], place: Place) -> &[u8]
+    requires { Within rec.now place }
+    ensures { (result.now ≡ sent rec.now place) × (length result.now ≡ place.width) }
+{
+    &rec[place.start..place.start + place.width]
+}
+
+// Copies the bytes at the place, as they were sent. `copy_from_slice` would call memmove, which the C interface does not ask of its caller.
 pub(crate) fn copy_sent(rec: &[u8], place: Place, to: &mut [u8])
     requires { Within rec.now place × (length to.old ≡ place.width) }
     ensures { to.new ≡ sent rec.now place }
 {
-    let n = place.width;
-    let mut i = 0;
-    while i < n {
-        to[i] = sent_byte(rec, place, i);
-        i += 1;
+    let bytes = sent(rec, place);
+    for (i, byte) in to.iter_mut().enumerate() {
+        *byte = bytes[i];
     }
 }
 
@@ -81,10 +87,7 @@ pub(crate) fn copy(rec: &[u8], place: Place, to: &mut [u8])
 pub(crate) fn sent_as(place: Place, b: u8, ascii: u8) -> u8
     ensures { result ≡ choose place.ascii ascii b }
 {
-    if place.ascii {
-        return ascii;
-    }
-    b
+    if place.ascii { ascii } else { b }
 }
 
 // The value's byte at `i` is `b`, which ASCII files send as `ascii`: no byte is translated.
@@ -96,45 +99,13 @@ pub(crate) fn is_byte(rec: &[u8], place: Place, i: usize, b: u8, ascii: u8) -> b
     sent_byte(rec, place, i) == wanted
 }
 
-// Every byte at the place was sent as `b`.
-fn has_only(rec: &[u8], place: Place, b: u8) -> bool
-    requires { Within rec.now place }
-    ensures { result ≡ only b (sent rec.now place) }
-{
-    let n = place.width;
-    let mut i = 0;
-    while i < n {
-        if sent_byte(rec, place, i) != b {
-            return false;
-        }
-        i += 1;
-    }
-    true
-}
-
 // Every byte of the value is `b`, which ASCII files send as `ascii`: no byte is translated.
 pub(crate) fn is_only(rec: &[u8], place: Place, b: u8, ascii: u8) -> bool
     requires { Within rec.now place × (twins (ascii ∷ []) (b ∷ []) ≡ true) }
     ensures { result ≡ only b (value rec.now place) }
 {
     let wanted = sent_as(place, b, ascii);
-    has_only(rec, place, wanted)
-}
-
-// No byte at the place was sent as `b`.
-fn has_none(rec: &[u8], place: Place, b: u8) -> bool
-    requires { Within rec.now place }
-    ensures { result ≡ every (λ (x : ℕ). not (eqb x b)) (sent rec.now place) }
-{
-    let n = place.width;
-    let mut i = 0;
-    while i < n {
-        if sent_byte(rec, place, i) == b {
-            return false;
-        }
-        i += 1;
-    }
-    true
+    sent(rec, place).iter().all(|byte| *byte == wanted)
 }
 
 // No byte of the value is blank: no byte is translated.
@@ -143,31 +114,17 @@ pub(crate) fn is_solid(rec: &[u8], place: Place) -> bool
     ensures { result ≡ solid (value rec.now place) }
 {
     let blank = sent_as(place, 0x40, 0x20);
-    has_none(rec, place, blank)
+    sent(rec, place).iter().all(|byte| *byte != blank)
 }
 
-// The greater of two bytes.
-fn greater(a: u8, b: u8) -> u8
-    ensures { result ≡ max a b }
+// The bytes are near this zero: a reduction with no early exit, which the compiler turns into vector code.
+fn are_near(bytes: &[u8], zero: u8) -> bool
+    ensures { result ≡ every (near zero) bytes.now }
 {
-    if a < b {
-        return b;
-    }
-    a
-}
-
-// The bytes that were sent from `from` up to `to` are near this zero: a reduction with no early exit, which the compiler turns into vector code.
-fn are_near(rec: &[u8], place: Place, zero: u8, from: usize, to: usize) -> bool
-    requires { Within rec.now place × (from ≤ to) × (to ≤ place.width) }
-    ensures { result ≡ every (near zero) (slice from to (sent rec.now place)) }
-{
-    let mut farthest: u8 = 0;
-    let mut i = from;
-    while i < to {
-        farthest = greater(sent_byte(rec, place, i) ^ zero, farthest);
-        i += 1;
-    }
-    farthest <= 9
+    bytes
+        .iter()
+        .fold(0, |farthest: u8, byte| farthest.max(*byte ^ zero))
+        <= 9
 }
 
 // The bytes from `from` up to `to` are digits: no byte is translated.
@@ -176,16 +133,7 @@ pub(crate) fn are_digits(rec: &[u8], place: Place, from: usize, to: usize) -> bo
     ensures { result ≡ digits (slice from to (value rec.now place)) }
 {
     let zero = sent_as(place, 0xF0, 0x30);
-    are_near(rec, place, zero, from, to)
-}
-
-// What the digit at `i` counts, in a part that is digits: its low half, in either code.
-fn digit(rec: &[u8], place: Place, from: usize, to: usize, i: usize) -> u64
-    requires { Within rec.now place × (from ≤ i) × (i < to) × (to ≤ place.width) × (digits (slice from to (value rec.now place)) ≡ true) }
-    ensures { (result ≡ get_or (value rec.now place) i 0 - 0xF0) × (result ≤ 9) }
-{
-    let b = sent_byte(rec, place, i) % 16;
-    b as u64
+    are_near(&sent(rec, place)[from..to], zero)
 }
 
 // The number that the digits from `from` up to `to` write.
@@ -193,63 +141,36 @@ pub(crate) fn number(rec: &[u8], place: Place, from: usize, to: usize) -> u64
     requires { Within rec.now place × (from ≤ to) × (to ≤ place.width) × (to - from ≤ 18) × (digits (slice from to (value rec.now place)) ≡ true) }
     ensures { result ≡ numeral (slice from to (value rec.now place)) }
 {
-    let mut sum: u64 = 0;
-    let mut i = from;
-    while i < to {
-        sum = sum * 10 + digit(rec, place, from, to, i);
-        i += 1;
+    let mut sum = 0;
+    for byte in &sent(rec, place)[from..to] {
+        sum = sum * 10 + u64::from(*byte % 16);
     }
     sum
 }
 
-// The lesser of two bytes.
-fn lesser(a: u8, b: u8) -> u8
-    ensures { result ≡ min a b }
+// The least byte, or hex FF where there is none: a reduction with no early exit, which the compiler turns into vector code.
+fn least_byte(bytes: &[u8]) -> u8
+    ensures { result ≡ least_from 0xFF bytes.now }
 {
-    if a < b {
-        return a;
-    }
-    b
-}
-
-// The least byte that was sent, or hex FF where that is less: a reduction with no early exit, which the compiler turns into vector code.
-fn least_byte(rec: &[u8], place: Place) -> u8
-    requires { Within rec.now place }
-    ensures { result ≡ least_from 0xFF (sent rec.now place) }
-{
-    let n = place.width;
-    let mut low: u8 = 0xFF;
-    let mut i = 0;
-    while i < n {
-        low = lesser(sent_byte(rec, place, i), low);
-        i += 1;
-    }
-    low
+    bytes.iter().fold(0xFF, |least: u8, byte| least.min(*byte))
 }
 
 // The byte, or 0 where it is above 7E.
 fn printable(b: u8) -> u8
     ensures { result ≡ choose (leb b 0x7E) b 0 }
 {
-    if b <= 0x7E {
-        return b;
-    }
-    0
+    if b <= 0x7E { b } else { 0 }
 }
 
-// The least byte that was sent, those above 7E taken for 0: the same of ASCII.
-fn least_printable(rec: &[u8], place: Place) -> u8
-    requires { Within rec.now place }
-    ensures { result ≡ least_printable 0xFF (sent rec.now place) }
+// The least byte, those above 7E taken for 0: the same of ASCII. As a fold over the bytes it does not become vector code.
+fn least_printable(bytes: &[u8]) -> u8
+    ensures { result ≡ least_printable 0xFF bytes.now }
 {
-    let n = place.width;
-    let mut low: u8 = 0xFF;
-    let mut i = 0;
-    while i < n {
-        low = lesser(printable(sent_byte(rec, place, i)), low);
-        i += 1;
+    let mut least = 0xFF;
+    for byte in bytes {
+        least = printable(*byte).min(least);
     }
-    low
+    least
 }
 
 // No byte of the value is below hex 40: in ASCII, all are 20 to 7E.
@@ -258,38 +179,16 @@ pub(crate) fn is_valid(rec: &[u8], place: Place) -> bool
     ensures { result ≡ valid (value rec.now place) }
 {
     if place.ascii {
-        return 0x20 <= least_printable(rec, place);
+        return 0x20 <= least_printable(sent(rec, place));
     }
-    0x40 <= least_byte(rec, place)
-}
-
-// The bytes that were sent are this text.
-fn has_text(rec: &[u8], place: Place, text: &[u8]) -> bool
-    requires { Within rec.now place }
-    ensures { result ≡ alike (sent rec.now place) text.now }
-{
-    let n = place.width;
-    if text.len() != n {
-        return false;
-    }
-    let mut i = 0;
-    while i < n {
-        if sent_byte(rec, place, i) != text[i] {
-            return false;
-        }
-        i += 1;
-    }
-    true
+    0x40 <= least_byte(sent(rec, place))
 }
 
 // The text that is sent: the second in ASCII.
 fn sent_text<'a>(place: Place, text: &'a [u8], ascii: &'a [u8]) -> &'a [u8]
     ensures { result.now ≡ choose place.ascii ascii.now text.now }
 {
-    if place.ascii {
-        return ascii;
-    }
-    text
+    if place.ascii { ascii } else { text }
 }
 
 // The value is this text, which is sent so in ASCII: no byte is translated.
@@ -297,92 +196,33 @@ pub(crate) fn is_text<'a>(rec: &[u8], place: Place, text: &'a [u8], ascii: &'a [
     requires { Within rec.now place × (twins ascii.now text.now ≡ true) }
     ensures { result ≡ alike (value rec.now place) text.now }
 {
-    let wanted = sent_text(place, text, ascii);
-    has_text(rec, place, wanted)
-}
-
-// The lesser of two widths.
-pub(crate) fn shorter(a: usize, b: usize) -> usize
-    ensures { result ≡ min a b }
-{
-    if a < b {
-        return a;
-    }
-    b
+    sent(rec, place) == sent_text(place, text, ascii)
 }
 
 // How the first bytes stand to the second in the order of bytes, as they were sent.
-pub(crate) fn sent_order(rec: &[u8], place: Place, other: &[u8], there: Place) -> Order
+pub(crate) fn sent_order(rec: &[u8], place: Place, other: &[u8], there: Place) -> Ordering
     requires { Within rec.now place × Within other.now there }
     ensures { result ≡ order (sent rec.now place) (sent other.now there) }
 {
-    let n = place.width;
-    let m = there.width;
-    let shared = shorter(n, m);
-    let mut i = 0;
-    while i < shared {
-        let a = sent_byte(rec, place, i);
-        let b = sent_byte(other, there, i);
-        if a != b {
-            if a < b {
-                return Order::Before;
-            }
-            return Order::After;
-        }
-        i += 1;
-    }
-    if n < m {
-        return Order::Before;
-    }
-    if m < n {
-        return Order::After;
-    }
-    Order::Same
-}
-
-// Both are ASCII.
-pub(crate) fn are_ascii(place: Place, there: Place) -> bool
-    ensures { result ≡ (place.ascii and there.ascii) }
-{
-    if place.ascii {
-        return there.ascii;
-    }
-    false
+    sent(rec, place).cmp(sent(other, there))
 }
 
 // How the first value stands to the second in the order of bytes, both ASCII: bytes that were sent alike are not translated.
-pub(crate) fn ascii_order(rec: &[u8], place: Place, other: &[u8], there: Place) -> Order
+pub(crate) fn ascii_order(rec: &[u8], place: Place, other: &[u8], there: Place) -> Ordering
     requires { Within rec.now place × Within other.now there × (place.ascii ≡ true) × (there.ascii ≡ true) }
     ensures { result ≡ order (value rec.now place) (value other.now there) }
 {
-    let n = place.width;
-    let m = there.width;
-    let shared = shorter(n, m);
-    let mut i = 0;
-    while i < shared {
-        let sent = sent_byte(rec, place, i);
-        let beside = sent_byte(other, there, i);
-        if sent == beside {
-            i += 1;
-        } else {
-            let a = translate(sent);
-            let b = translate(beside);
-            if a != b {
-                if a < b {
-                    return Order::Before;
-                }
-                return Order::After;
+    let bytes = sent(rec, place);
+    let others = sent(other, there);
+    for (byte, beside) in bytes.iter().zip(others) {
+        if byte != beside {
+            match translate(*byte).cmp(&translate(*beside)) {
+                Ordering::Equal => {}
+                apart => return apart,
             }
-            i += 1;
         }
     }
-    if n < m {
-        return Order::Before;
-    }
-    if m < n {
-        return Order::After;
-    }
-    Order::Same
+    bytes.len().cmp(&others.len())
 }
 
 // The bytes are the same, as they were sent.
@@ -390,16 +230,5 @@ pub(crate) fn sent_same(rec: &[u8], place: Place, other: &[u8], there: Place) ->
     requires { Within rec.now place × Within other.now there }
     ensures { result ≡ alike (sent rec.now place) (sent other.now there) }
 {
-    let n = place.width;
-    if there.width != n {
-        return false;
-    }
-    let mut i = 0;
-    while i < n {
-        if sent_byte(rec, place, i) != sent_byte(other, there, i) {
-            return false;
-        }
-        i += 1;
-    }
-    true
+    sent(rec, place) == sent(other, there)
 }

@@ -3,8 +3,7 @@
 use mathlib.Core.Path.{◌≡◌, refl, sym, ◌∙◌}
 use mathlib.Core.Bool.{Bool, true, false, not, true≢false}
 use mathlib.Core.List.{List, [], ◌∷◌, ◌++◌}
-use Prim.Native.Nat.{ℕ, ◌+◌, ◌/◌, ◌%◌, ◌≤◌, ◌<◌}
-use native.Mathlib.Omega.{arith}
+use Prim.Native.Nat.{ℕ, ◌+◌, ◌/◌, ◌%◌, ◌≤◌}
 use borrow.Author.Tests.{not-false, eq-eqb, ne_eqb}
 use lib.Dec.{eqb}
 use lib.ListN.{length}
@@ -133,15 +132,12 @@ module _ (classes class first : ℕ) (xs : List ℕ) where
       pub tried_new : is_suspect classes class sieve (record_at first place xs) ≡ false → AllMarked classes class sieve (cut first place xs) → walks ≤ most_walks
           → Tried classes class first xs place false walks
       unfolding is_suspect
-      tried_new t m h = record { answer = λ l. unsuspected _ _ refl refl t m; budget = λ l. h }
+      tried_new t m h = record { answer = unsuspected _ _ refl refl t m; budget = h }
 
       pub tried_walked : (s r : Bool) → s ≡ is_suspect classes class sieve (record_at first place xs) → not s ≡ false → walks ≤ most_walks
           → r ≡ repeats Payments (cut first place xs) (record_at first place xs) → Tried classes class first xs place r walks
       unfolding is_suspect
-      tried_walked s r q t h e = record { answer = λ l. in_walked r (and_left _ _ (sym q ∙ not-false s t)) e; budget = λ l. h }
-
-    pub tried_spent : (walks : ℕ) → most_walks < walks → Tried classes class first xs place true walks
-    tried_spent walks h = record { answer = λ l. absurd (omega arith); budget = λ e. absurd (true≢false e) }
+      tried_walked s r q t h e = record { answer = in_walked r (and_left _ _ (sym q ∙ not-false s t)) e; budget = h }
 
     -- the marks after the record
     module _ (sieve after : List ℕ) (n : length sieve ≡ 1024) (e : after ≡ sifted classes class sieve (record_at first place xs)) where

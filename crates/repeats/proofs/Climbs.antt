@@ -1,5 +1,6 @@
 -- A climb of Payment IDs: one record more, and one that never falls has no repeat.
 -- Assumes nothing.
+use Rattle.std.specs.Prelude.{Some, None}
 use mathlib.Core.Path.{◌≡◌, refl, sym, ◌∙◌}
 use mathlib.Core.Bool.{Bool, true, false, true≢false}
 use mathlib.Core.List.{List, [], ◌∷◌, ◌++◌, append-nil}
@@ -11,7 +12,6 @@ use Rattle.record.specs.Ordering.{order, is_after}
 use Rattle.record.specs.Codes.{code_of, is_detail}
 use Rattle.record.proofs.Chain.{choose_yes, choose_no}
 use Rattle.nesting.specs.Division.{Record}
-use Rattle.repeats.specs.declared.Repeat.TheVariants.{At, Nowhere}
 use Rattle.repeats.specs.declared.Sort.TheVariants.{Payments}
 use Rattle.repeats.specs.declared.climb.Climbing.{Climbing}
 use Rattle.tables.specs.Tables.{member}
@@ -77,13 +77,13 @@ module _ (r : Record) (known : Climbing) (seen : List Record) (f : known.falls �
 
 -- a climb over records after those seen, none of which stands after the greatest: where no ID falls, none repeats
 pub climb_clean : (n : ℕ) (seen rs : List Record) (known : Climbing) → known.falls ≡ false → Topped known.greatest (numbers Payments seen)
-    → (climbed_by rs known).falls ≡ false → first_repeat Payments n seen rs ≡ Nowhere
+    → (climbed_by rs known).falls ≡ false → first_repeat Payments n seen rs ≡ None
 unfolding first_repeat climbed_by choose
 climb_clean n seen [] known f t e = refl
 climb_clean n seen (r ∷ rs) known f t e = go (climbed r known).falls refl (λ g u. climb_clean (n + 1) (seen ++ r ∷ []) rs (climbed r known) g u e)
   where
     go : (b : Bool) → (climbed r known).falls ≡ b
-        → ((climbed r known).falls ≡ false → Topped (climbed r known).greatest (numbers Payments (seen ++ r ∷ [])) → first_repeat Payments (n + 1) (seen ++ r ∷ []) rs ≡ Nowhere)
-        → choose (repeats Payments seen r) (At n) (first_repeat Payments (n + 1) (seen ++ r ∷ []) rs) ≡ Nowhere
+        → ((climbed r known).falls ≡ false → Topped (climbed r known).greatest (numbers Payments (seen ++ r ∷ [])) → first_repeat Payments (n + 1) (seen ++ r ∷ []) rs ≡ None)
+        → choose (repeats Payments seen r) (Some n) (first_repeat Payments (n + 1) (seen ++ r ∷ []) rs) ≡ None
     go true h later = absurd (true≢false (sym (stays_fallen rs (climbed r known) h) ∙ e))
     go false h later = let c = clean r known seen f t h in rw c.0 (later h c.1)

@@ -1,5 +1,6 @@
 -- The first repeat: what is left decides.
 -- Assumes nothing.
+use Rattle.std.specs.Prelude.{Option, Some, None}
 use mathlib.Core.Path.{◌≡◌, sym, ◌∙◌}
 use mathlib.Core.Bool.{true, false}
 use mathlib.Core.List.{List, [], ◌∷◌}
@@ -9,14 +10,12 @@ use lib.ListN.{length}
 use Rattle.record.specs.Choice.{choose}
 use Rattle.nesting.specs.Records.{cut, record_at}
 use Rattle.nesting.proofs.Cuts.{onward, cut_onward, cut_snoc}
-use Rattle.repeats.specs.declared.Repeat.{Repeat}
-use Rattle.repeats.specs.declared.Repeat.TheVariants.{At, Nowhere}
 use Rattle.repeats.specs.declared.Sort.TheVariants.{Payments}
 use Rattle.repeats.specs.Repeats.{repeats, first_repeat}
 
 module _ (first : ℕ) (xs : List ℕ) where
   -- the answer that is looked for
-  abbrev pub wanted_repeat : Repeat
+  abbrev pub wanted_repeat : Option ℕ
   wanted_repeat = first_repeat Payments first [] (cut first (length xs / 850) xs)
 
   -- the records from the place on decide
@@ -37,7 +36,7 @@ module _ (first : ℕ) (xs : List ℕ) where
           let e : length xs / 850 - place ≡ suc (length xs / 850 - (place + 1)) = omega arith in
           rw e (cut_onward first place (length xs / 850 - (place + 1)) xs)
 
-      pub seeking_stop : repeats Payments (cut first place xs) (record_at first place xs) ≡ true → At (first + place) ≡ wanted_repeat
+      pub seeking_stop : repeats Payments (cut first place xs) (record_at first place xs) ≡ true → Some (first + place) ≡ wanted_repeat
       unfolding Seeking first_repeat choose
       seeking_stop t = sym (s ∙ rw (opened, t))
 
@@ -47,7 +46,7 @@ module _ (first : ℕ) (xs : List ℕ) where
           let e : first + place + 1 ≡ first + (place + 1) = omega arith in
           s ∙ rw (opened, t, cut_snoc first place xs, e)
 
-    pub seeking_end : count ≤ place → Seeking place → Nowhere ≡ wanted_repeat
+    pub seeking_end : count ≤ place → Seeking place → None ≡ wanted_repeat
     unfolding Seeking first_repeat cut
     seeking_end h s =
         let e : length xs / 850 - place ≡ 0 = omega arith in

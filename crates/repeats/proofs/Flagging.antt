@@ -7,8 +7,8 @@ use Prim.Native.Nat.{ℕ, zero, suc, ◌+◌, ◌-◌, ◌*◌, ◌/◌, ◌≤�
 use native.Mathlib.Omega.{arith}
 use borrow.Author.Tests.{leb-true, leb-false, ltb-true, ltb-false, lt-ltb, le-ltb}
 use lib.Dec.{leb, ltb}
-use lib.ListN.{length, drop, set, get_or, length-append, length-drop, drop_of_length-le}
-use lib.Seq.{drop_at, drop-cons}
+use lib.ListN.{length, drop, set, length-append, replicate}
+use lib.Seq.{drop_at}
 use Rattle.page.proofs.Shown.{set_seam}
 use Rattle.record.specs.Choice.{◌and◌, ◌or◌, choose}
 use Rattle.record.specs.Value.{held}
@@ -51,40 +51,10 @@ unfolding zeros
 zeros_snoc zero = refl
 zeros_snoc (suc n) = ap (◌∷◌ 0) (zeros_snoc n)
 
--- the first flags are cleared
-pub record Cleared (before flags : List ℕ) (i : ℕ) : Type 0 where
-  pub within : i ≤ length before
-  pub done : flags ≡ zeros i ++ drop i before
-
-zeros_length : (n : ℕ) → length (zeros n) ≡ n
+pub zeros_replicate : (n : ℕ) → replicate n 0 ≡ zeros n
 unfolding zeros
-zeros_length zero = refl
-zeros_length (suc n) = ap suc (zeros_length n)
-
-pub cleared_none : (flags : List ℕ) → Cleared flags flags 0
-unfolding zeros
-cleared_none flags = record { within = omega arith; done = refl }
-
-module _ (before flags : List ℕ) (i : ℕ) (c : Cleared before flags i) where
-  pub cleared_length : length flags ≡ length before
-  cleared_length = rw c.done (simp (length-append, length-drop) (omega (arith, zeros_length i, c.within)))
-
-  pub cleared_next : i < length flags → Cleared before (set flags i 0) (i + 1)
-  cleared_next h =
-      let l : i < length before = omega (arith, cleared_length) in
-      let e : set flags i 0 ≡ zeros i ++ 0 ∷ drop (suc i) before =
-      ap (λ (xs : List ℕ). set xs i 0) (c.done ∙ ap (λ (xs : List ℕ). zeros i ++ xs) (drop-cons before i 0 l))
-      ∙ ap (λ (n : ℕ). set (zeros i ++ get_or before i 0 ∷ drop (suc i) before) n 0) (sym (zeros_length i)) ∙ set_seam (zeros i) (drop (suc i) before) (get_or before i 0) 0 in
-      let n : i + 1 ≡ suc i = omega arith in
-      record {
-        within = omega arith;
-        done = e ∙ rw (n, ← zeros_snoc i) (sym (append_assoc (zeros i) (0 ∷ []) (drop (suc i) before)));
-      }
-
-  pub cleared_all : length flags ≤ i → flags ≡ zeros (length before)
-  cleared_all h =
-      let e : i ≡ length before = omega (arith, cleared_length, c.within) in
-      c.done ∙ rw (e, drop_of_length-le before {i = length before} (omega arith)) (append-nil (zeros (length before)))
+zeros_replicate zero = refl
+zeros_replicate (suc n) = ap (◌∷◌ 0) (zeros_replicate n)
 
 -- one flag more at the end
 flags_snoc : (earlier later : List (List ℕ)) (y : List ℕ) → flags_of earlier (later ++ y ∷ []) ≡ flags_of earlier later ++ choose (member y (earlier ++ later)) 1 0 ∷ []

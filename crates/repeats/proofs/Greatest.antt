@@ -5,8 +5,8 @@ use mathlib.Core.Bool.{Bool, true, false, true≢false}
 use mathlib.Core.List.{List, [], ◌∷◌, ◌++◌}
 use Prim.Native.Nat.{ℕ}
 use native.Mathlib.Omega.{arith}
-use Rattle.record.specs.declared.Order.{Order}
-use Rattle.record.specs.declared.Order.TheVariants.{Before, Same, After}
+use Rattle.std.specs.declared.cmp.Ordering.{Ordering}
+use Rattle.std.specs.declared.cmp.Ordering.TheVariants.{Less, Equal, Greater}
 use Rattle.record.specs.Choice.{◌or◌}
 use Rattle.record.specs.Tests.{alike}
 use Rattle.record.specs.Ordering.{order, is_after}
@@ -20,24 +20,24 @@ pub read_after : (copy x greatest : List ℕ) (r b : Bool) → copy ≡ x → r 
 read_after copy x greatest r b e q t = rw (← e) (sym q ∙ t)
 
 -- the order that the test tells
-not_after : (o : Order) → is_after o ≡ false → o ≡ After → ⊥
+not_after : (o : Ordering) → is_after o ≡ false → o ≡ Greater → ⊥
 unfolding is_after
-not_after Before e q = absurd (let z : ◌≡◌ {A = ℕ} 0 1 = cc in omega arith)
-not_after Same e q = absurd (let z : ◌≡◌ {A = ℕ} 0 1 = cc in omega arith)
-not_after After e q = true≢false e
+not_after Less e q = absurd (let z : ◌≡◌ {A = ℕ} 0 1 = cc in omega arith)
+not_after Equal e q = absurd (let z : ◌≡◌ {A = ℕ} 0 1 = cc in omega arith)
+not_after Greater e q = true≢false e
 
-is_after_holds : (o : Order) → is_after o ≡ true → o ≡ After
+is_after_holds : (o : Ordering) → is_after o ≡ true → o ≡ Greater
 unfolding is_after
-is_after_holds Before e = absurd (true≢false (sym e))
-is_after_holds Same e = absurd (true≢false (sym e))
-is_after_holds After e = refl
+is_after_holds Less e = absurd (true≢false (sym e))
+is_after_holds Equal e = absurd (true≢false (sym e))
+is_after_holds Greater e = refl
 
-after_itself : (xs : List ℕ) → order xs xs ≡ After → ⊥
+after_itself : (xs : List ℕ) → order xs xs ≡ Greater → ⊥
 unfolding is_after
 after_itself xs e = not_after (order xs xs) (rw (order_self xs)) e
 
 -- what stands after one that stands after a third stands after the third
-after_both : (xs ys zs : List ℕ) → order xs ys ≡ After → order ys zs ≡ After → order xs zs ≡ After
+after_both : (xs ys zs : List ℕ) → order xs ys ≡ Greater → order ys zs ≡ Greater → order xs zs ≡ Greater
 after_both xs ys zs e f = turn_before zs xs (order_transitive zs ys xs (turn_after ys zs f) (turn_after xs ys e))
 
 -- the greatest so far

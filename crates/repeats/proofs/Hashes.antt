@@ -1,14 +1,12 @@
 -- The hash of an ID: no step wraps, and one word more; and that of a record's.
 -- Assumes nothing.
 use mathlib.Core.Path.{◌≡◌, refl, ap, ◌∙◌}
-use mathlib.Core.Bool.{Bool, true, false}
-use mathlib.Core.List.{List, []}
+use mathlib.Core.Bool.{Bool}
+use mathlib.Core.List.{List}
 use Prim.Native.Nat.{ℕ, ◌+◌, ◌-◌, ◌*◌, ◌/◌, ◌%◌, ◌≤◌, ◌<◌}
 use native.Mathlib.Numerals.{add-one}
 use native.Mathlib.Omega.{arith}
-use lib.ListN.{length}
 use Rattle.record.specs.declared.Field.{Field}
-use Rattle.record.specs.Choice.{choose}
 use Rattle.page.specs.CodePage.{shown}
 use Rattle.record.specs.Value.{held}
 use Rattle.nesting.specs.Division.{Record}
@@ -52,12 +50,6 @@ unfolding hash_of
 hash_end id k h g r l m a b e =
     let q : k ≡ 5 = omega arith in
     e ∙ rw (b, a, q)
-
--- a part of a record that is as long as the ID is the ID, and not the empty one
-pub part_hash : (ascii : Bool) (id part : List ℕ) (h : ℕ) → part ≡ choose ascii [] id → length part ≡ 20 → h ≡ hash_of part → h ≡ hash_of id
-unfolding choose
-part_hash true id part h e n q = absurd (omega (arith, n, ap length e))
-part_hash false id part h e n q = q ∙ ap hash_of e
 
 pub copy_hash : (id copy : List ℕ) (h : ℕ) → copy ≡ id → h ≡ hash_of copy → h ≡ hash_of id
 copy_hash id copy h e q = q ∙ ap hash_of e

@@ -1,5 +1,6 @@
 -- Passes over the classes: the best place so far, and the first repeat after the last pass.
 -- Assumes nothing.
+use Rattle.std.specs.Prelude.{Some, None}
 use mathlib.Core.Path.{◌≡◌, refl, sym, ◌∙◌}
 use mathlib.Core.Bool.{Bool, true, false, true≢false}
 use mathlib.Core.Logic.{⊎_elim}
@@ -13,10 +14,9 @@ use lib.Dec.{eqb}
 use lib.ListN.{length}
 use Rattle.record.specs.Choice.{◌and◌}
 use Rattle.nesting.specs.Records.{cut, record_at}
-use Rattle.repeats.specs.declared.Repeat.TheVariants.{At, Nowhere}
 use Rattle.repeats.specs.declared.Sort.TheVariants.{Payments}
 use Rattle.repeats.specs.Repeats.{is_of, repeats}
-use Rattle.repeats.specs.Sieve.{id_of, class_of, in_class, repeats_in, most_walks, Tried, Passed}
+use Rattle.repeats.specs.Sieve.{id_of, class_of, in_class, repeats_in, Tried, Passed}
 use Rattle.repeats.proofs.Firsts.{wanted_repeat, Seeking, seeking_none, seeking_next, seeking_stop, seeking_end}
 
 -- one pass: no repeat of the class before the place
@@ -33,16 +33,13 @@ module _ (classes class first : ℕ) (xs : List ℕ) where
     unfolding Clean
     clean_next t k h =
         ⊎_elim
-        (λ (q : k ≡ place). rw q (sym (e.answer (e.budget t)) ∙ t))
+        (λ (q : k ≡ place). rw q (sym e.answer ∙ t))
         (λ (q : k < place). c k q)
         (eq-or-lt_of_le (le_of_suc-le-suc (rw (← add-one place) h)))
 
-    pub passed_hit : (best : ℕ) → place < best → r ≡ true → walks ≤ most_walks → Passed classes class first xs best place
+    pub passed_hit : (best : ℕ) → place < best → r ≡ true → Passed classes class first xs best place
     unfolding Clean
-    passed_hit best h t w = record { within = omega arith; clean = c; found = λ l. sym (e.answer w) ∙ t }
-
-  pub tried_budget : (place : ℕ) (r : Bool) (walks : ℕ) → Tried classes class first xs place r walks → r ≡ false → walks ≤ most_walks
-  tried_budget place r walks e t = e.budget t
+    passed_hit best h t = record { within = omega arith; clean = c; found = λ l. sym e.answer ∙ t }
 
   pub passed_all : (best place : ℕ) → place ≤ best → best ≤ place → Clean classes class first xs place → Passed classes class first xs best best
   unfolding Clean
@@ -116,9 +113,9 @@ module _ (first : ℕ) (xs : List ℕ) (count : ℕ) (m : count ≡ length xs / 
         less : {x : ℕ} → x < classes → x < c
         less h = omega arith
 
-    pub best_hit : best < count → At (first + best) ≡ wanted_repeat first xs
+    pub best_hit : best < count → Some (first + best) ≡ wanted_repeat first xs
     unfolding is_repeat
     best_hit h = seeking_stop first xs best count m h (seek best o.within (λ k q. o.clean k q (small k))) (o.found h)
 
-    pub best_miss : count ≤ best → Nowhere ≡ wanted_repeat first xs
+    pub best_miss : count ≤ best → None ≡ wanted_repeat first xs
     best_miss h = seeking_end first xs best count m h (seek best o.within (λ k q. o.clean k q (small k)))

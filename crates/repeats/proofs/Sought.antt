@@ -1,5 +1,6 @@
 -- Blocks of records: one block's loop, and the first repeat after the last block.
 -- Assumes nothing.
+use Rattle.std.specs.Prelude.{Some, None}
 use mathlib.Core.Path.{◌≡◌, refl, sym, ◌∙◌}
 use mathlib.Core.Bool.{Bool, true, false}
 use mathlib.Core.Logic.{⊎_elim}
@@ -14,7 +15,6 @@ use lib.ListN.{length}
 use Rattle.record.specs.Choice.{◌or◌}
 use Rattle.nesting.specs.Records.{cut, record_at}
 use Rattle.tables.specs.Tables.{Stands}
-use Rattle.repeats.specs.declared.Repeat.TheVariants.{At, Nowhere}
 use Rattle.repeats.specs.declared.Sort.TheVariants.{Payments}
 use Rattle.repeats.specs.declared.blocks.Visited.{Visited}
 use Rattle.repeats.specs.Repeats.{repeats}
@@ -138,9 +138,9 @@ module _ (first : ℕ) (bytes : List ℕ) (count : ℕ) where
           let e : from - (from - k) ≡ k = omega arith in
           sym (meets_all Payments first bytes k) ∙ rw e at (o.clean k h)
 
-      pub sought_hit : best < count → At (first + best) ≡ wanted_repeat first bytes
+      pub sought_hit : best < count → Some (first + best) ≡ wanted_repeat first bytes
       unfolding is_repeat
       sought_hit h = seeking_stop first bytes best count m h (seek first bytes count m best o.within clear) (o.found h)
 
-      pub sought_miss : count ≤ best → Nowhere ≡ wanted_repeat first bytes
+      pub sought_miss : count ≤ best → None ≡ wanted_repeat first bytes
       sought_miss h = seeking_end first bytes best count m h (seek first bytes count m best o.within clear)

@@ -1,7 +1,8 @@
 -- Numbers that repeat an earlier one (01 Batch reasons, 6): a batch's schedule number in the file, a Payment ID in its batch.
+use Rattle.std.specs.Prelude.{Option, Some, None}
 use Rattle.std.specs.Prelude.{ℕ, ◌+◌, ◌≡◌, Bool, List, [], ◌∷◌, ◌++◌}
 use Rattle.record.specs.declared.Field.{Field}
-use Rattle.record.specs.declared.Order.TheVariants.{After}
+use Rattle.std.specs.declared.cmp.Ordering.TheVariants.{Greater}
 use Rattle.record.specs.Choice.{◌and◌, choose}
 use Rattle.record.specs.Fields.{schedule_number, payment_id}
 use Rattle.record.specs.Value.{held}
@@ -9,8 +10,6 @@ use Rattle.record.specs.Ordering.{order}
 use Rattle.record.specs.Codes.{code_of, is_detail, is_header}
 use Rattle.nesting.specs.Division.{Record}
 use Rattle.tables.specs.Tables.{member}
-use Rattle.repeats.specs.declared.Repeat.{Repeat}
-use Rattle.repeats.specs.declared.Repeat.TheVariants.{At, Nowhere}
 use Rattle.repeats.specs.declared.Sort.{Sort}
 use Rattle.repeats.specs.declared.Sort.TheVariants.{Payments, Batches}
 
@@ -34,11 +33,11 @@ unfoldable pub repeats : Sort → List Record → Record → Bool
 repeats sort earlier r = is_of sort r and member (held r (numbering sort)) (numbers sort earlier)
 
 -- the first record that repeats an earlier one, by its number in the file; n is that of the first
-unfoldable pub first_repeat : Sort → ℕ → List Record → List Record → Repeat
-first_repeat sort n earlier [] = Nowhere
-first_repeat sort n earlier (r ∷ rs) = choose (repeats sort earlier r) (At n) (first_repeat sort (n + 1) (earlier ++ r ∷ []) rs)
+unfoldable pub first_repeat : Sort → ℕ → List Record → List Record → Option ℕ
+first_repeat sort n earlier [] = None
+first_repeat sort n earlier (r ∷ rs) = choose (repeats sort earlier r) (Some n) (first_repeat sort (n + 1) (earlier ++ r ∷ []) rs)
 
 -- none of the numbers stands after the greatest
 unfoldable pub Topped : List ℕ → List (List ℕ) → Type 0
 Topped greatest [] = Unit {0}
-Topped greatest (y ∷ ys) = (order y greatest ≡ After → ⊥) × Topped greatest ys
+Topped greatest (y ∷ ys) = (order y greatest ≡ Greater → ⊥) × Topped greatest ys

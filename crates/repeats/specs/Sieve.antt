@@ -89,10 +89,10 @@ repeats_in classes class first bytes place =
 abbrev pub most_walks : ℕ
 most_walks = 16
 
--- a trial of that record: it is told while the suspects are in the budget, and a pass that goes on is in it
+-- a trial of that record, the suspects being in the budget
 pub record Tried (classes class first : ℕ) (bytes : List ℕ) (place : ℕ) (stops : Bool) (walks : ℕ) : Type 0 where
-  pub answer : walks ≤ most_walks → stops ≡ repeats_in classes class first bytes place
-  pub budget : stops ≡ false → walks ≤ most_walks
+  pub answer : stops ≡ repeats_in classes class first bytes place
+  pub budget : walks ≤ most_walks
 
 -- the first such place before the best, or the best
 pub record Passed (classes class first : ℕ) (bytes : List ℕ) (best place : ℕ) : Type 0 where

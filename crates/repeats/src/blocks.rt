@@ -9,8 +9,8 @@ ghost use Rattle.repeats.specs.declared.Sort.TheVariants.{Payments};
 ghost use Rattle.repeats.specs.Repeats.{numbering, first_repeat};
 ghost use Rattle.repeats.specs.Blocks.{visited, table_visited, Blocked};
 
+use crate::Sort;
 use crate::walk::{is_of, number_field};
-use crate::{Repeat, Sort};
 use record::Line;
 use tables::{Key, enter};
 
@@ -18,7 +18,8 @@ use tables::{Key, enter};
 pub(crate) const TABLE: usize = 4096;
 
 // What is known after a record of a block: whether it is of the sort, whether the table holds its number, the places in the table, and the
-// first record that found no room.
+// first record that found no room. The two answers stand apart, since `mark_block` asks for each alone: one of three kinds would have to be taken apart
+// there again.
 #[derive(Clone, Copy)]
 pub(crate) struct Visited {
     pub(crate) own: bool,
@@ -99,21 +100,20 @@ fn block(part: &[u8], first: Line, from: usize, best: usize) -> BlockEnd
     let mut table = [0u16; TABLE];
     let mut count: usize = 0;
     let mut next = best;
-    let mut place = from;
-    while place < best {
+    for place in from..best {
         let seen = visit(part, first, place, Sort::Payments, &mut table, count, next);
         if seen.known {
             return BlockEnd { place, next };
         }
         count = seen.count;
         next = seen.next;
-        place += 1;
     }
     BlockEnd { place: best, next }
 }
 
-// The first repeat: a record before the best has the ID of no record of the blocks so far that stands before it.
-pub(crate) fn first_by_blocks(part: &[u8], first: Line) -> Repeat
+// The first repeat: a record before the best has the ID of no record of the blocks so far that stands before it. The loop has no counter to take
+// from it: each block says where the next begins.
+pub(crate) fn first_by_blocks(part: &[u8], first: Line) -> Option<usize>
     requires { (length part.now ≤ 65535 * 850) × (first.number ≤ 65536) }
     ensures { result ≡ first_repeat Payments first.number [] (cut first.number (length (seen first part.now) / 850) (seen first part.now)) }
 {
@@ -126,8 +126,7 @@ pub(crate) fn first_by_blocks(part: &[u8], first: Line) -> Repeat
         from = ended.next;
     }
     if best < count {
-        let number = first.number + best;
-        return Repeat::At(number);
+        return Some(first.number + best);
     }
-    Repeat::Nowhere
+    None
 }

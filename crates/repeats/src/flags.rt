@@ -24,11 +24,7 @@ struct NextBlock {
 fn clear(flags: &mut [u8])
     ensures { flags.new ≡ zeros (length flags.old) }
 {
-    let mut i: usize = 0;
-    while i < flags.len() {
-        flags[i] = 0;
-        i += 1;
-    }
+    flags.fill(0);
 }
 
 // The index of the next flag after the record at the place, which has one if it is a header from the start on.
@@ -90,8 +86,7 @@ fn mark_block(
     let mut next = records;
     let mut kept = index;
     let mut flag = index;
-    let mut place = from;
-    while place < records {
+    for place in from..records {
         let seen = visit(file, first, place, Sort::Batches, &mut table, count, next);
         let after = index_after(start, place, seen.own, flag);
         set_flag(flags, flag, after, seen.known);
@@ -99,7 +94,6 @@ fn mark_block(
         count = seen.count;
         next = seen.next;
         flag = after;
-        place += 1;
     }
     NextBlock {
         place: next,
@@ -108,7 +102,7 @@ fn mark_block(
 }
 
 // Marks each batch from the start on: 1 where an earlier batch of the file has its number, else 0. The first block begins at
-// the file's start, and each that follows where the one before it ends.
+// the file's start, and each that follows where the one before it ends: the loop has no counter to take from it.
 pub(crate) fn mark_batches(file: &[u8], ascii: bool, start: usize, flags: &mut [u8])
     requires { (start * 850 + 850 ≤ length file.now) × (length file.now ≤ 65535 * 850) × (length flags.old ≡ length (numbers_from (shown ascii file.now) start)) }
     ensures { flags.new ≡ flags_of (numbers_before (shown ascii file.now) start) (numbers_from (shown ascii file.now) start) }

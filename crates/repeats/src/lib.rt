@@ -17,18 +17,12 @@ ghost use Rattle.repeats.specs.Schedules.{Batched, Noted, numbers_before, number
 
 use record::Line;
 
-// What is numbered: payments by Payment ID, batches by schedule number.
+// What is numbered: payments by Payment ID, batches by schedule number. A trait in place of the enum would be no plainer: `numbering` and `is_of` in
+// Repeats.antt, and what is proved of a table's records, are of either sort.
 #[derive(Clone, Copy)]
 pub enum Sort {
     Payments,
     Batches,
-}
-
-// The number of a record, or none.
-#[derive(Clone, Copy)]
-pub enum Repeat {
-    At(usize),
-    Nowhere,
 }
 
 // What is known of a batch's schedule number: whether an earlier batch has it, the greatest number while they rise, and whether the batches are
@@ -82,7 +76,7 @@ pub fn number_batch(
 
 // The first record of the part that repeats an earlier Payment ID in it (01 Batch reasons, 6); the part's first record has the number
 // `first`.
-pub fn first_repeat(part: &[u8], first: Line) -> Repeat
+pub fn first_repeat(part: &[u8], first: Line) -> Option<usize>
     requires { (length part.now ≤ 65535 * 850) × (first.number ≤ 65536) }
     ensures { result ≡ first_repeat Payments first.number [] (cut first.number (length (seen first part.now) / 850) (seen first part.now)) }
 {

@@ -1,17 +1,19 @@
 // The first repeat of a Payment ID where the IDs do not climb: passes over classes of a hash, each with a sieve of 65,536 bits on the
 // stack. The plain walk is made only where all marks of an ID are set, so that a batch of many payments costs a few passes; the
 // walks have a budget, so that no choice of IDs makes it cost more.
-ghost use Rattle.std.specs.Prelude.{◌≡◌, [], ◌+◌, ◌*◌, ◌/◌, ◌<◌, ◌≤◌, length};
+ghost use Rattle.std.specs.Prelude.{◌≡◌, [], ◌+◌, ◌*◌, ◌/◌, ◌<◌, ◌≤◌, length, IfSome};
 ghost use Rattle.record.specs.Value.{seen, held};
 ghost use Rattle.nesting.specs.Records.{cut, record_at};
 ghost use Rattle.tables.specs.Tables.{Stands};
 ghost use Rattle.repeats.specs.declared.Sort.TheVariants.{Payments};
+ghost use Rattle.repeats.specs.declared.sieve.Trial.{Trial};
+ghost use Rattle.repeats.specs.declared.sieve.Passing.{Passing};
 ghost use Rattle.repeats.specs.Repeats.{numbering, first_repeat};
 ghost use Rattle.repeats.specs.Sieve.{word_of, mixed, hash_of, marked, is_marked, has_marks, with_marks, is_suspect, sifted, AllMarked, most_walks, Tried, Passed};
 
+use crate::Sort;
 use crate::blocks::first_by_blocks;
 use crate::walk::{id_of, is_of, is_repeated};
-use crate::{Repeat, Sort};
 use numbers::wide;
 use record::Line;
 use record::layout::PAYMENT_ID;
@@ -22,7 +24,7 @@ const WALKS: usize = 16;
 // The marks of a hash: 16 bits of it choose each, five bits apart, and all of them lie below the bits that choose the class.
 const MARKS: usize = 7;
 
-// Whether a pass stops at a record, and the suspects counted after it.
+// Whether a pass ends at a record, and the suspects counted after it.
 #[derive(Clone, Copy)]
 struct Trial {
     stops: bool,
@@ -58,14 +60,10 @@ fn hash_of(id: &[u8]) -> u64
     ensures { result ≡ hash_of id.now }
 {
     let mut hash: u64 = 0;
-    let mut k: usize = 0;
-    while k < 5 {
-        let next = word(id, k * 4);
-        hash = mix(hash, next);
-        k += 1;
+    for k in 0..5 {
+        hash = mix(hash, word(id, k * 4));
     }
-    let stirred = mix(hash, 0);
-    mix(stirred, 0)
+    mix(mix(hash, 0), 0)
 }
 
 // The hash of a record's Payment ID, which is read where it stands if it can be.
@@ -73,12 +71,10 @@ fn hash_in(rec: &[u8], line: Line) -> u64
     requires { length rec.now ≡ 850 }
     ensures { result ≡ hash_of (held (seen line rec.now) (numbering Payments)) }
 {
-    let id = record::field_part(rec, line, PAYMENT_ID);
-    if id.len() == 20 {
+    if let Some(id) = record::field_part(rec, line, PAYMENT_ID) {
         return hash_of(id);
     }
-    let copy = id_of(rec, line);
-    hash_of(&copy)
+    hash_of(&id_of(rec, line))
 }
 
 // The same of the record at the place.
@@ -116,13 +112,11 @@ fn has_marks(sieve: &[u64; 1024], hash: u64) -> bool
     ensures { result ≡ has_marks sieve.now hash }
 {
     let mut rest = hash;
-    let mut left = MARKS;
-    while 0 < left {
+    for _ in 0..MARKS {
         if !is_marked(sieve, (rest % 65536) as usize) {
             return false;
         }
         rest = rest / 32;
-        left -= 1;
     }
     true
 }
@@ -131,11 +125,9 @@ fn give_marks(sieve: &mut [u64; 1024], hash: u64)
     ensures { sieve.new ≡ with_marks sieve.old hash }
 {
     let mut rest = hash;
-    let mut left = MARKS;
-    while 0 < left {
+    for _ in 0..MARKS {
         mark(sieve, (rest % 65536) as usize);
         rest = rest / 32;
-        left -= 1;
     }
 }
 
@@ -165,8 +157,8 @@ fn sift(
     before
 }
 
-// Whether the pass stops at the record: a detail of the class that repeats an earlier one, or one suspect too many. An ID that lacks a
-// mark is new; a suspect is counted, and walked while the budget lasts.
+// Whether the pass ends at the record: a detail of the class that repeats an earlier one. An ID that lacks a mark is new; a suspect is counted
+// and walked. There is no answer at one suspect too many.
 fn try_at(
     part: &[u8],
     first: Line,
@@ -175,75 +167,75 @@ fn try_at(
     class: u64,
     walks: usize,
     sieve: &mut [u64; 1024],
-) -> Trial
+) -> Option<Trial>
     requires { Stands first.number place part.now × (0 < classes) × (walks ≤ most_walks) × (length sieve.old ≡ 1024) × AllMarked classes class sieve.old (cut first.number place (seen first part.now)) }
-    ensures answer { Tried classes class first.number (seen first part.now) place result.stops result.walks }
+    ensures answer { IfSome result (λ (t : Trial). Tried classes class first.number (seen first part.now) place t.stops t.walks) }
     ensures size { length sieve.new ≡ 1024 }
     ensures after { AllMarked classes class sieve.new (cut first.number (place + 1) (seen first part.now)) }
 {
     if !sift(part, first, place, classes, class, sieve) {
-        return Trial {
+        return Some(Trial {
             stops: false,
             walks,
-        };
+        });
     }
     let walks = walks + 1;
     if WALKS < walks {
-        return Trial { stops: true, walks };
+        return None;
     }
     let stops = is_repeated(part, first, place, Sort::Payments);
-    Trial { stops, walks }
+    Some(Trial { stops, walks })
 }
 
 // The first place before the best at which a detail of the class repeats an earlier one; else the best. A pass that meets too many
-// suspects gives up, and its place says nothing.
-fn pass(part: &[u8], first: Line, classes: u64, class: u64, best: usize, walks: usize) -> Passing
+// suspects gives up.
+fn pass(
+    part: &[u8],
+    first: Line,
+    classes: u64,
+    class: u64,
+    best: usize,
+    walks: usize,
+) -> Option<Passing>
     requires { (length part.now ≤ 65535 * 850) × (first.number ≤ 65536) × (best * 850 ≤ length part.now) × (0 < classes) × (walks ≤ most_walks) }
-    ensures { result.walks ≤ most_walks → Passed classes class first.number (seen first part.now) best result.place }
+    ensures { IfSome result (λ (p : Passing). (p.walks ≤ most_walks) × Passed classes class first.number (seen first part.now) best p.place) }
 {
     let mut sieve = [0u64; 1024];
     let mut walks = walks;
-    let mut place: usize = 0;
-    while place < best {
-        let trial = try_at(part, first, place, classes, class, walks, &mut sieve);
+    for place in 0..best {
+        let trial = try_at(part, first, place, classes, class, walks, &mut sieve)?;
         walks = trial.walks;
         if trial.stops {
-            return Passing { place, walks };
+            return Some(Passing { place, walks });
         }
-        place += 1;
     }
-    Passing { place: best, walks }
+    Some(Passing { place: best, walks })
 }
 
 // The first repeat. A class for 8,192 records: at least every second record of a batch is no detail (01 Nesting), so that some 4,000 IDs
 // share a sieve of 65,536 bits, and a new ID meets seven marks of others about once in 1,250 times near the end of a pass. A batch of more
 // suspects than the budget has walks, as IDs of one hash make it, is sought by blocks. The first class stands apart: a function that is called in
 // two places keeps a frame of its own, so that the sieve is on the stack only while it is used, and not while a batch is walked.
-pub(crate) fn first_by_classes(part: &[u8], first: Line) -> Repeat
+pub(crate) fn first_by_classes(part: &[u8], first: Line) -> Option<usize>
     requires { (length part.now ≤ 65535 * 850) × (first.number ≤ 65536) }
     ensures { result ≡ first_repeat Payments first.number [] (cut first.number (length (seen first part.now) / 850) (seen first part.now)) }
 {
     let count = part.len() / 850;
     let classes = (count / 8192) as u64 + 1;
-    let opened = pass(part, first, classes, 0, count, 0);
-    if WALKS < opened.walks {
+    let Some(opened) = pass(part, first, classes, 0, count, 0) else {
         return first_by_blocks(part, first);
-    }
+    };
     let mut best = opened.place;
     let mut walks = opened.walks;
-    let mut class: u64 = 1;
-    while class < classes {
-        let passed = pass(part, first, classes, class, best, walks);
-        if WALKS < passed.walks {
+    for class in 1..classes {
+        let Some(passed) = pass(part, first, classes, class, best, walks) else {
             return first_by_blocks(part, first);
-        }
+        };
         best = passed.place;
         walks = passed.walks;
-        class += 1;
     }
     if best < count {
-        let number = first.number + best;
-        return Repeat::At(number);
+        return Some(first.number + best);
     }
-    Repeat::Nowhere
+    None
 }

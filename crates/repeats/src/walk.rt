@@ -73,12 +73,10 @@ pub(crate) fn is_repeated(file: &[u8], first: Line, place: usize, sort: Sort) ->
     if !is_of(file, first, place, sort) {
         return false;
     }
-    let mut earlier: usize = 0;
-    while earlier < place {
+    for earlier in 0..place {
         if agrees(file, first, earlier, place, sort) {
             return true;
         }
-        earlier += 1;
     }
     false
 }
@@ -94,9 +92,7 @@ pub(crate) fn schedule_number(file: &[u8], first: Line, place: usize) -> [u8; 14
     let number = first.number + place;
     let ascii = first.ascii;
     let line = Line { number, ascii };
-    let mut copy = [0u8; 14];
-    record::copy_field(rec, line, SCHEDULE_NUMBER, &mut copy);
-    copy
+    record::field_array(rec, line, SCHEDULE_NUMBER)
 }
 
 // The Payment ID of a record (004 field 23).
@@ -104,7 +100,5 @@ pub(crate) fn id_of(rec: &[u8], line: Line) -> [u8; 20]
     requires { length rec.now ≡ 850 }
     ensures { result ≡ held (seen line rec.now) (numbering Payments) }
 {
-    let mut copy = [0u8; 20];
-    record::copy_field(rec, line, PAYMENT_ID, &mut copy);
-    copy
+    record::field_array(rec, line, PAYMENT_ID)
 }

@@ -25,12 +25,9 @@ fn write_numbers(part: &mut [u8], row: [u64; 8])
     requires { length part.old ≡ 64 }
     ensures { part.new ≡ row_bytes row }
 {
-    let mut k: usize = 0;
-    while k < 8 {
+    for (k, number) in row.iter().enumerate() {
         let at = k * 8;
-        let end = at + 8;
-        numbers::write(&mut part[at..end], row[k]);
-        k += 1;
+        numbers::write(&mut part[at..at + 8], *number);
     }
 }
 
@@ -39,6 +36,5 @@ pub fn write_row(report: &mut [u8], at: usize, row: [u64; 8])
     requires { at + 64 ≤ length report.old }
     ensures { report.new ≡ over report.old at (row_bytes row) }
 {
-    let end = at + 64;
-    write_numbers(&mut report[at..end], row);
+    write_numbers(&mut report[at..at + 64], row);
 }

@@ -1,5 +1,6 @@
 -- The batch that begins at a place is judged: the rest of the file begins with it.
 -- Assumes nothing.
+use Rattle.std.specs.Prelude.{Option}
 use mathlib.Core.Path.{◌≡◌, ap, ◌∙◌}
 use mathlib.Core.Bool.{Bool}
 use mathlib.Core.List.{List}
@@ -8,7 +9,7 @@ use native.Mathlib.Omega.{arith}
 use lib.ListN.{length, take, drop}
 use Rattle.page.specs.CodePage.{shown}
 use Rattle.page.proofs.Shown.{shown_length, shown_take, shown_drop}
-use Rattle.calendar.specs.declared.Today.{Today}
+use Rattle.calendar.specs.declared.Day.{Day}
 use Rattle.book.specs.Book.{Contents}
 use Rattle.nesting.specs.Division.{batch_lines}
 use Rattle.batch.specs.declared.Row.{Row}
@@ -40,7 +41,7 @@ module _ (ascii : Bool) (sent : List ℕ) {place : ℕ} (s : Opens (shown ascii 
   pub opens_judgeable : Judgeable (place + 1) (shown ascii (rest_of sent place))
   opens_judgeable = rw rest_is (judgeable s.cuttable s.stands)
 
-  module _ (book : Contents) (today : Today) (repeats : Bool) (row : Row) (told : IsRow book today repeats (place + 1) (shown ascii (rest_of sent place)) row) where
+  module _ (book : Contents) (today : Option Day) (repeats : Bool) (row : Row) (told : IsRow book today repeats (place + 1) (shown ascii (rest_of sent place)) row) where
     r : IsRow book today repeats (place + 1) (rest_of f place) row
     r = rw rest_is at told
 
@@ -61,7 +62,7 @@ module _ (ascii : Bool) (sent : List ℕ) {place : ℕ} (s : Opens (shown ascii 
         rw (o, m)
 
 -- its row is written behind so many others
-pub is_written : (book : Contents) (today : Today) (file : List ℕ) (repeats : Bool) (place written at : ℕ) (report after : List ℕ) (r : Judged) → IsJudged book today file repeats place r → at ≡ row_at written
+pub is_written : (book : Contents) (today : Option Day) (file : List ℕ) (repeats : Bool) (place written at : ℕ) (report after : List ℕ) (r : Judged) → IsJudged book today file repeats place r → at ≡ row_at written
     → after ≡ over report at (row_bytes r.numbers) → IsWritten book today file repeats place written report r.place after
 is_written book today file repeats place written at report after r j q p earlier b t =
     let e : r ≡ judged book today repeats place b = j earlier b t in

@@ -1,15 +1,18 @@
 -- The loop over a file's batches: the rows so far and those of the batches left are the report's.
 -- Assumes nothing.
+use Rattle.std.specs.Prelude.{Option, Ok, Err}
+use Rattle.reasons.specs.declared.Finding.{Finding}
+use Rattle.reasons.specs.Findings.{Checked}
 use mathlib.Core.Path.{◌≡◌, refl, sym, ap, ◌∙◌}
 use mathlib.Core.Bool.{Bool, false, true≢false}
 use mathlib.Core.List.{List, [], ◌∷◌, ◌++◌, map, append_assoc, append-nil}
-use Prim.Native.Nat.{ℕ, ◌+◌, ◌-◌, ◌/◌, ◌<◌, ◌≤◌}
+use Prim.Native.Nat.{ℕ, suc, ◌+◌, ◌-◌, ◌/◌, ◌<◌, ◌≤◌}
 use native.Mathlib.Omega.{arith}
 use lib.ListN.{length, take, drop, length-append, take-append-drop}
 use lib.Seq.{length-take-le, take-take, take_at}
 use Rattle.money.specs.declared.Amount.{Amount}
-use Rattle.calendar.specs.declared.Today.{Today}
-use Rattle.calendar.specs.declared.Today.TheVariants.{Unlent}
+use Rattle.calendar.specs.declared.Day.{Day}
+use Rattle.std.specs.Prelude.{None}
 use Rattle.book.specs.Book.{Contents}
 use Rattle.nesting.specs.Division.{Batch, Division, DivisionOf, batch_lines, records_before, lines}
 use Rattle.nesting.specs.Records.{records}
@@ -24,7 +27,7 @@ use Rattle.repeats.proofs.Looks.{topped_none}
 use Rattle.repeats.proofs.Schedules.{noted_next}
 use Rattle.batch.specs.Batch.{row_of}
 use Rattle.rows.specs.declared.Judged.{Judged}
-use Rattle.rows.specs.Report.{head_row, batch_row, schedule_of, batch_rows, head_of, rows_of, reported, Writable, Written}
+use Rattle.rows.specs.Report.{head_row, finding_row, batch_row, schedule_of, batch_rows, head_of, rows_of, reported, Writable, Written}
 use Rattle.rows.specs.Standing.{Stands, Opens, judged, IsWritten, flags_at, flags_in, Numberable}
 use Rattle.rows.proofs.Places.{counted, number_is, before_is, before_after, from_here, from_after, is_batched}
 use Rattle.rows.proofs.Sizes.{place_next, batches_few, batches_size}
@@ -50,9 +53,15 @@ all_rows first report rows batches h n f r =
     let e : row_at 0 + length (rows_bytes rows) ≡ row_at batches = rows_end rows h ∙ ap row_at n in
     sym (take-append-drop (row_at batches) report) ∙ (λ i. f i ++ r i) ∙ rw e (append_assoc (take (row_at 0) first) (rows_bytes rows) (drop (row_at batches) first))
 
+-- what a row says of its finding is three numbers
+three : (f : Checked Finding) → length (finding_row f) ≡ 3
+unfolding finding_row
+three (Ok tt) = refl
+three (Err f) = refl
+
 -- the report `first` has the head; behind it the rows of the earlier batches stand in the report, those of the later ones are left, and
 -- what is known of their numbers is noted
-pub record Going (book : Contents) (today : Today) (file : List ℕ) (payments batches : ℕ) (first report greatest : List ℕ) (marked : Bool) (place written : ℕ) : Type 0 where
+pub record Going (book : Contents) (today : Option Day) (file : List ℕ) (payments batches : ℕ) (first report greatest : List ℕ) (marked : Bool) (place written : ℕ) : Type 0 where
   pub total : Amount
   pub writable : Writable file payments total batches first
   pub earlier : List Batch
@@ -69,7 +78,7 @@ pub record Going (book : Contents) (today : Today) (file : List ℕ) (payments b
   pub rear : drop (room_for batches) report ≡ drop (room_for batches) first
   pub decides : rows_of book today writable.division ≡ rows ++ batch_rows book today (place + 1) earlier later
 
-module _ {book : Contents} {today : Today} {file : List ℕ} {payments batches : ℕ} {first report greatest : List ℕ} {marked : Bool} {place written : ℕ}
+module _ {book : Contents} {today : Option Day} {file : List ℕ} {payments batches : ℕ} {first report greatest : List ℕ} {marked : Bool} {place written : ℕ}
     (g : Going book today file payments batches first report greatest marked place written) where
   abbrev w : Writable file payments g.total batches first
   w = g.writable
@@ -177,7 +186,7 @@ module _ {book : Contents} {today : Today} {file : List ℕ} {payments batches :
       unfolding judged batch_rows batch_row stands
       turned next' after j =
           let r : Judged = judged book today n.repeats place b in
-          let eight : length r.numbers ≡ 8 = refl in
+          let eight : length r.numbers ≡ 8 = ap (λ (k : ℕ). suc (suc (suc (suc (suc k))))) (three (row_of book today n.repeats (place + 1) b).finding) in
           let bytes : length (row_bytes r.numbers) ≡ 64 = row_length r.numbers eight in
           let z : next' ≡ place + length (batch_lines b) = (j g.earlier b stands).0 in
           let m : place + 1 + length (batch_lines b) ≡ next' + 1 = omega (arith, z) in
@@ -207,7 +216,7 @@ module _ {book : Contents} {today : Today} {file : List ℕ} {payments batches :
           }
 
 -- the same of another report with the head, which differs at the rows alone
-module _ {book : Contents} {today : Today} {file : List ℕ} {payments batches : ℕ} {first report greatest : List ℕ} {marked : Bool} {place written : ℕ}
+module _ {book : Contents} {today : Option Day} {file : List ℕ} {payments batches : ℕ} {first report greatest : List ℕ} {marked : Bool} {place written : ℕ}
     (g : Going book today file payments batches first report greatest marked place written) where
   based : (other : List ℕ) → length other ≡ length first → take (row_at 0) other ≡ take (row_at 0) first → drop (room_for batches) other ≡ drop (room_for batches) first
       → Going book today file payments batches other report greatest marked place written
@@ -246,7 +255,7 @@ module _ {book : Contents} {today : Today} {file : List ℕ} {payments batches :
       sym (take-take (row_at 0) (row_at written) report (omega arith)) ∙ ap (take (row_at 0)) g.front ∙ take_at (take (row_at 0) first) (rows_bytes g.rows) (row_at 0) n
 
 -- of the report that it is itself, and back
-module _ {book : Contents} {today : Today} {file : List ℕ} {payments batches : ℕ} {first report greatest : List ℕ} {marked : Bool} {place written : ℕ}
+module _ {book : Contents} {today : Option Day} {file : List ℕ} {payments batches : ℕ} {first report greatest : List ℕ} {marked : Bool} {place written : ℕ}
     (g : Going book today file payments batches first report greatest marked place written) where
   pub rebased : Going book today file payments batches report report greatest marked place written
   rebased = based g report g.long (head_stays g) g.rear
@@ -273,7 +282,7 @@ module _ {file : List ℕ} {payments : ℕ} {total : Amount} {batches : ℕ} {be
   head_kept = rw p (over_length before 0 (row_bytes head) (rw (row_length head head_eight) (omega (arith, head_room batches (length before) w.room))))
 
   -- before the first batch
-  pub begun : (book : Contents) (today : Today) (greatest : List ℕ) → Going book today file payments batches first first greatest false 1 0
+  pub begun : (book : Contents) (today : Option Day) (greatest : List ℕ) → Going book today file payments batches first first greatest false 1 0
   unfolding rows_of rows_bytes
   begun book today greatest =
       record {
@@ -312,27 +321,27 @@ module _ {file : List ℕ} {payments : ℕ} {total : Amount} {batches : ℕ} {be
   nothing = record { systems = []; locations = []; betcs = []; types = []; states = []; countries = []; currencies = [] }
 
   pub first_opens : Opens file 1
-  first_opens = opens (begun nothing Unlent []) some
+  first_opens = opens (begun nothing None []) some
 
   pub first_numberable : (greatest : List ℕ) → Numberable file 1 greatest false batches 0 first
-  first_numberable greatest = numberable (begun nothing Unlent greatest) some
+  first_numberable greatest = numberable (begun nothing None greatest) some
 
   module _ (greatest : List ℕ) (o : Numbering) (mid : List ℕ) (q : o ≡ numbered file 1 greatest false)
       (f : mid ≡ over first (flags_at batches 0) (flagged file 1 greatest false (flags_in batches 0 first))) where
     pub first_fits : row_at 0 + 64 ≤ length mid
-    first_fits = row_fits (begun nothing Unlent greatest) some o mid q f
+    first_fits = row_fits (begun nothing None greatest) some o mid q f
 
     -- after it
-    pub opened : (book : Contents) (today : Today) (place : ℕ) (after : List ℕ) → IsWritten book today file o.repeats 1 0 mid place after → Going book today file payments batches first after o.greatest o.marked place 1
+    pub opened : (book : Contents) (today : Option Day) (place : ℕ) (after : List ℕ) → IsWritten book today file o.repeats 1 0 mid place after → Going book today file payments batches first after o.greatest o.marked place 1
     opened book today place after j = turned (begun book today greatest) some o mid q f place after j
 
   -- the report keeps its length
-  pub all_kept : {book : Contents} {today : Today} {report greatest : List ℕ} {marked : Bool} {place written : ℕ} → Going book today file payments batches first report greatest marked place written
+  pub all_kept : {book : Contents} {today : Option Day} {report greatest : List ℕ} {marked : Bool} {place written : ℕ} → Going book today file payments batches first report greatest marked place written
       → length report ≡ length before
   all_kept g = g.long ∙ head_kept
 
   -- after the last
-  pub finished : {book : Contents} {today : Today} {report greatest : List ℕ} {marked : Bool} {place written : ℕ} → Going book today file payments batches first report greatest marked place written
+  pub finished : {book : Contents} {today : Option Day} {report greatest : List ℕ} {marked : Bool} {place written : ℕ} → Going book today file payments batches first report greatest marked place written
       → batches ≤ written → Written book today file before report
   unfolding batch_rows
   finished {book} {today} {report} {place = place} {written = written} g h d q =

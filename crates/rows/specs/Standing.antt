@@ -1,6 +1,6 @@
 -- Where a batch stands in a file, what it adds to the report, and where the flags of the batches to come stand meanwhile.
-use Rattle.std.specs.Prelude.{ℕ, ◌+◌, ◌-◌, ◌<◌, ◌≤◌, ◌≡◌, Bool, List, ◌∷◌, ◌++◌, length, take, drop}
-use Rattle.calendar.specs.declared.Today.{Today}
+use Rattle.std.specs.Prelude.{ℕ, Option, ◌+◌, ◌-◌, ◌<◌, ◌≤◌, ◌≡◌, Bool, List, ◌∷◌, ◌++◌, length, take, drop}
+use Rattle.calendar.specs.declared.Day.{Day}
 use Rattle.book.specs.Book.{Contents}
 use Rattle.nesting.specs.Division.{Batch, Division, DivisionOf, batch_lines, records_before}
 use Rattle.nesting.specs.Records.{records, Cuttable}
@@ -26,15 +26,15 @@ pub record Opens (file : List ℕ) (place : ℕ) : Type 0 where
   pub stands : Stands file place earlier batch
 
 -- the numbers of the batch's row, an earlier batch having its schedule number or not, and the records up to its end
-unfoldable pub judged : Contents → Today → Bool → ℕ → Batch → Judged
+unfoldable pub judged : Contents → Option Day → Bool → ℕ → Batch → Judged
 judged book today repeats place b = record { numbers = batch_row (row_of book today repeats (place + 1) b); place = place + length (batch_lines b) }
 
 -- they are those of the batch that stands there
-abbrev pub IsJudged : Contents → Today → List ℕ → Bool → ℕ → Judged → Type 0
+abbrev pub IsJudged : Contents → Option Day → List ℕ → Bool → ℕ → Judged → Type 0
 IsJudged book today file repeats place r = (earlier : List Batch) (b : Batch) → Stands file place earlier b → r ≡ judged book today repeats place b
 
 -- the records up to its end, and the report with its row behind so many others
-abbrev pub IsWritten : Contents → Today → List ℕ → Bool → ℕ → ℕ → List ℕ → ℕ → List ℕ → Type 0
+abbrev pub IsWritten : Contents → Option Day → List ℕ → Bool → ℕ → ℕ → List ℕ → ℕ → List ℕ → Type 0
 IsWritten book today file repeats place written report next after =
     (earlier : List Batch) (b : Batch) → Stands file place earlier b
     → (next ≡ (judged book today repeats place b).place) × (after ≡ over report (row_at written) (row_bytes (judged book today repeats place b).numbers))

@@ -6,13 +6,14 @@ ghost use Rattle.page.specs.CodePage.{shown};
 ghost use Rattle.book.specs.Book.{Usable, listed_at};
 ghost use Rattle.report.specs.Rows.{over, row_at};
 ghost use Rattle.repeats.specs.Schedules.{numbered, flagged};
-ghost use Rattle.rows.specs.Report.{head_row, batch_row, Writable, Written};
+ghost use Rattle.rows.specs.Report.{head_row, finding_row, batch_row, Writable, Written};
 ghost use Rattle.rows.specs.Standing.{Opens, IsJudged, IsWritten, flags_at, flags_in, Numberable};
 
 use batch::Row;
 use book::Book;
-use calendar::Today;
+use calendar::Day;
 use money::Amount;
+use reasons::Finding;
 use record::Line;
 use repeats::Numbering;
 
@@ -39,21 +40,36 @@ fn head_numbers(records: usize, payments: usize, total: Amount, batches: usize) 
     ]
 }
 
+// What a batch's row says of its finding: zeros when sound (01 Report).
+#[tactic(auto, unfolding(crate::specs::Report::finding_row))]
+fn finding_numbers(finding: Result<(), Finding>) -> [u64; 3]
+    ensures { result ≡ finding_row finding }
+{
+    match finding {
+        Ok(()) => [0, 0, 0],
+        Err(finding) => [
+            u64::from(finding.reason),
+            finding.record_number as u64,
+            finding.field as u64,
+        ],
+    }
+}
+
 // The numbers of a batch's row (01 Report).
+#[tactic(auto, unfolding(crate::specs::Report::batch_row))]
 fn batch_numbers(row: Row) -> [u64; 8]
     ensures { result ≡ batch_row row }
 {
-    let total = row.total;
-    let finding = row.finding;
+    let [reason, record_number, field] = finding_numbers(row.finding);
     [
         row.first_record as u64,
         row.records as u64,
         row.payments,
-        total.high,
-        total.low,
-        finding.reason as u64,
-        finding.record_number as u64,
-        finding.field as u64,
+        row.total.high,
+        row.total.low,
+        reason,
+        record_number,
+        field,
     ]
 }
 
@@ -84,7 +100,7 @@ fn judge_next(
     ascii: bool,
     book: &[u8],
     shelves: Book,
-    today: Today,
+    today: Option<Day>,
     place: usize,
     repeats: bool,
 ) -> Judged
@@ -109,7 +125,7 @@ fn write_next(
     ascii: bool,
     book: &[u8],
     shelves: Book,
-    today: Today,
+    today: Option<Day>,
     place: usize,
     repeats: bool,
     written: usize,
@@ -133,7 +149,7 @@ pub fn write_rows(
     ascii: bool,
     book: &[u8],
     shelves: Book,
-    today: Today,
+    today: Option<Day>,
     payments: usize,
     total: Amount,
     batches: usize,
@@ -160,8 +176,7 @@ pub fn write_rows(
     );
     let mut greatest = opened.greatest;
     let mut marked = opened.marked;
-    let mut written: usize = 1;
-    while written < batches {
+    for written in 1..batches {
         let number = number_next(
             file, ascii, place, greatest, marked, batches, written, report,
         );
@@ -178,6 +193,5 @@ pub fn write_rows(
         );
         greatest = number.greatest;
         marked = number.marked;
-        written += 1;
     }
 }

@@ -1,3 +1,4 @@
 pub mod Tables
 pub mod Moved
 pub mod Unique
+pub mod Parts

@@ -7,7 +7,8 @@ use Rattle.record.specs.declared.Field.{Field}
 use Rattle.record.specs.Fields.{is_voided_check, check_symbol_number, check_first_serial_number, check_serial_number}
 use Rattle.record.specs.Value.{held}
 use Rattle.reasons.specs.declared.Finding.{Finding}
-use Rattle.reasons.specs.Findings.{found}
+use Rattle.reasons.specs.declared.Reason.{Reason}
+use Rattle.reasons.specs.Findings.{Checked, found}
 use Rattle.rules.specs.declared.Context.{Context}
 use Rattle.rules.specs.Rules.{Rule, Test, reason, findings}
 
@@ -63,5 +64,5 @@ module _ (c : Context) (rec other : List ℕ) (b : Beside rec other) where
   moved_findings n [] h = refl
   moved_findings n (r ∷ rs) h =
       ap (λ (v : List ℕ). found (reason c rec r.test v) n r.field ∷ findings c n rec rs) h.0
-      ∙ ap (λ (k : ℕ). found k n r.field ∷ findings c n rec rs) (same_reason r.test (held other r.position))
-      ∙ ap (λ (fs : List Finding). found (reason c other r.test (held other r.position)) n r.field ∷ fs) (moved_findings n rs h.1)
+      ∙ ap (λ (k : Checked Reason). found k n r.field ∷ findings c n rec rs) (same_reason r.test (held other r.position))
+      ∙ ap (λ (fs : List (Checked Finding)). found (reason c other r.test (held other r.position)) n r.field ∷ fs) (moved_findings n rs h.1)

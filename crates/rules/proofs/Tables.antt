@@ -1,6 +1,6 @@
 -- The tables in parts: the rules of a letter are those of the parts that its function asks, one after the other.
 -- Assumes nothing.
-use mathlib.Core.Path.{◌≡◌, refl, ◌∙◌}
+use mathlib.Core.Path.{◌≡◌, refl, sym, ap, ◌∙◌}
 use mathlib.Core.List.{List, [], ◌∷◌, ◌++◌, map}
 use Prim.Native.Nat.{ℕ}
 use types.Run.{OneOf, miss}
@@ -11,8 +11,9 @@ use Rattle.record.specs.Choice.{◌and◌, ◌or◌, choose}
 use Rattle.record.specs.Layout as place
 use Rattle.record.specs.Codes.{letter_byte}
 use Rattle.reasons.specs.declared.Finding.{Finding}
-use Rattle.reasons.specs.Findings.{after}
-use Rattle.reasons.proofs.Firsts.{after_append}
+use Rattle.std.specs.Prelude.{Ok, Err}
+use Rattle.reasons.specs.Findings.{Checked, sound, first, noted, after}
+use Rattle.reasons.proofs.Firsts.{after_sound, stays}
 use Rattle.rules.specs.declared.Context.{Context}
 use Rattle.rules.specs.Rules.{Rule, header, detail, party, account, procurement, lone_procurement, trailer, among, rows, rules_for, findings}
 
@@ -22,19 +23,30 @@ module _ (c : Context) (n : ℕ) (rec : List ℕ) where
   findings_append [] ys = refl
   findings_append (x ∷ xs) ys = rw (findings_append xs ys)
 
+  first_append : (xs ys : List (Checked Finding)) → first (xs ++ ys) ≡ noted (first xs) (first ys)
+  unfolding first noted
+  first_append [] ys = refl
+  first_append (Ok tt ∷ xs) ys = first_append xs ys
+  first_append (Err f ∷ xs) ys = refl
+
   -- one part after another
-  pub joined : (f g z : Finding) (xs ys zs : List Rule) → zs ≡ xs ++ ys → g ≡ after f (findings c n rec xs) → z ≡ after g (findings c n rec ys)
-      → z ≡ after f (findings c n rec zs)
-  joined f g z xs ys zs e h k = k ∙ rw (e, findings_append xs ys, after_append f (findings c n rec xs) (findings c n rec ys), h)
+  pub parted : (xs ys zs : List Rule) → zs ≡ xs ++ ys → first (findings c n rec zs) ≡ noted (first (findings c n rec xs)) (first (findings c n rec ys))
+  parted xs ys zs e = rw (e, findings_append xs ys) (first_append (findings c n rec xs) (findings c n rec ys))
+
+  -- from what is known on
+  pub from : (f : Checked Finding) (xs : List Rule) → after f (findings c n rec xs) ≡ noted f (first (findings c n rec xs))
+  unfolding noted
+  from (Ok tt) xs = after_sound (findings c n rec xs)
+  from (Err f) xs = stays f (findings c n rec xs)
 
   -- the rules of a letter that is known
-  pub lettered : (f z : Finding) (l m : Letter) (from to : ℕ) (rs : List Rule) → l ≡ m → z ≡ after f (findings c n rec (rows from to m rs))
-      → z ≡ after f (findings c n rec (rows from to l rs))
-  lettered f z l m from to rs e h = rw e h
+  pub lettered : (z : Checked Finding) (l m : Letter) (from to : ℕ) (rs : List Rule) → l ≡ m → z ≡ first (findings c n rec (rows from to m rs))
+      → z ≡ first (findings c n rec (rows from to l rs))
+  lettered z l m from to rs e h = rw e h
 
-  pub nothing : (f : Finding) (rs : List Rule) → rs ≡ [] → f ≡ after f (findings c n rec rs)
-  unfolding findings after
-  nothing f rs e = rw e
+  pub nothing : (rs : List Rule) → rs ≡ [] → sound ≡ first (findings c n rec rs)
+  unfolding findings first
+  nothing rs e = rw e
 
 -- the parts of each table
 pub header_n : rules_for N header ≡ rows 6 9 N header ++ rows 10 14 N header
@@ -109,6 +121,56 @@ party_asked A d = absurd (d refl)
 pub party_none : rules_for A party ≡ []
 unfolding rows among party letter_byte choose ◌and◌ ◌or◌
 party_none = refl
+
+-- the tables by their parts, as the code asks them
+module _ (c : Context) (n : ℕ) (rec : List ℕ) where
+  abbrev whole : List Rule → Checked Finding
+  whole rs = first (findings c n rec rs)
+
+  three : (xs ys zs ws : List Rule) → ws ≡ xs ++ (ys ++ zs) → whole ws ≡ noted (whole xs) (noted (whole ys) (whole zs))
+  three xs ys zs ws e = parted c n rec xs (ys ++ zs) ws e ∙ ap (noted (whole xs)) (parted c n rec ys zs (ys ++ zs) refl)
+
+  module _ (l : Letter) where
+    pub whole_header_n : l ≡ N → first (findings c n rec (rules_for l header)) ≡ noted (first (findings c n rec (rows 6 9 N header))) (first (findings c n rec (rows 10 14 N header)))
+    whole_header_n e = rw e (parted c n rec _ _ _ header_n)
+
+    pub whole_header_c : l ≡ C → first (findings c n rec (rules_for l header)) ≡ noted (first (findings c n rec (rows 6 17 C header))) (first (findings c n rec (rows 18 20 C header)))
+    whole_header_c e = rw e (parted c n rec _ _ _ header_c)
+
+    pub whole_header_w : l ≡ W → first (findings c n rec (rules_for l header)) ≡ noted (first (findings c n rec (rows 6 9 N header))) (first (findings c n rec (rows 10 14 W header)))
+    whole_header_w e = rw e (parted c n rec _ _ _ header_w)
+
+    pub whole_header_i : l ≡ I → first (findings c n rec (rules_for l header)) ≡ noted (first (findings c n rec (rows 6 9 N header))) (first (findings c n rec (rows 10 14 I header)))
+    whole_header_i e = rw e (parted c n rec _ _ _ header_i)
+
+    pub whole_header_a : l ≡ A → first (findings c n rec (rules_for l header)) ≡ noted (first (findings c n rec (rows 6 9 N header))) (first (findings c n rec (rows 10 14 I header)))
+    whole_header_a e = rw e (parted c n rec _ _ _ header_a)
+
+    pub whole_common : first (findings c n rec (rows 26 38 l detail))
+        ≡ noted (first (findings c n rec (rows 26 28 N detail))) (noted (first (findings c n rec (rows 29 29 l detail))) (first (findings c n rec (rows 35 38 N detail))))
+    whole_common = three _ _ _ _ (common_parts l)
+
+    pub no_location : Other l → first (findings c n rec (rows 29 29 l detail)) ≡ sound
+    no_location d = sym (nothing c n rec _ (location_none l d))
+
+    pub whole_check : l ≡ C → first (findings c n rec (rules_for l detail))
+        ≡ noted (first (findings c n rec (rows 23 25 C detail))) (noted (first (findings c n rec (rows 26 38 l detail))) (first (findings c n rec (rows 42 62 l detail))))
+    whole_check e = three _ _ _ _ (detail_c l e)
+
+    pub whole_other : Other l → first (findings c n rec (rules_for l detail))
+        ≡ noted (first (findings c n rec (rows 23 24 N detail))) (noted (first (findings c n rec (rows 26 38 l detail))) (first (findings c n rec (rows 42 62 l detail))))
+    whole_other d = three _ _ _ _ (detail_other l d)
+
+    pub no_party : l ≡ A → first (findings c n rec (rules_for l party)) ≡ sound
+    no_party e = sym (nothing c n rec _ (rw e party_none))
+
+    pub whole_party : (l ≡ A → ⊥) → first (findings c n rec (rules_for l party)) ≡ first (findings c n rec (rules_for N party))
+    whole_party e = rw (party_asked l e)
+
+  pub whole_account : first (findings c n rec (rules_for N account)) ≡ noted (first (findings c n rec (rows 80 85 N account))) (first (findings c n rec (rows 86 87 N account)))
+  whole_account = parted c n rec _ _ _ account_parts
+
+pub ruleset wholes = (from, whole_header_n, whole_header_c, whole_header_w, whole_header_i, whole_header_a, whole_common, no_location, whole_check, whole_other, no_party, whole_party, whole_account)
 
 -- every rule stands where 004 puts its field
 pub tables : List Rule

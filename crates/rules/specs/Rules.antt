@@ -10,7 +10,9 @@ use Rattle.record.specs.Tests.{alike}
 use Rattle.record.specs.Codes.{letter_byte}
 use Rattle.money.specs.Money.{worth, Whole}
 use Rattle.reasons.specs.declared.Finding.{Finding}
-use Rattle.reasons.specs.Findings.{found}
+use Rattle.reasons.specs.declared.Reason.{Reason}
+use Rattle.reasons.specs.declared.Reason.TheVariants as reasons
+use Rattle.reasons.specs.Findings.{Checked, sound, found}
 use Rattle.reasons.specs.Lists.{voucher_forms, courtesy_checks, voided_checks, business_functions, transaction_codes, payer_mechanisms, entry_classes}
 use Rattle.reasons.specs.Reasons.{required, number, unbroken, dashed_day, creation_day, accounting_month, issue_day, routing_number, listed, if_listed, if_coded, if_postal, if_number, in_book, if_in_book, positive, check_amount, check_symbol, number_is, amount_is, unrepeated, composed}
 use Rattle.rules.specs.declared.Codes.{Codes}
@@ -166,8 +168,8 @@ lone_procurement = rule 96 procurement_amount any_letter IfDigits ∷ []
 unfoldable pub trailer : List Rule
 trailer = rule 99 batch_total_count any_letter Count ∷ rule 100 batch_total_amount any_letter Sum ∷ []
 
--- the reason that a field's value draws, 0 where it is sound
-unfoldable pub reason : Context → List ℕ → Test → List ℕ → ℕ
+-- the reason that a field's value draws, if it draws one
+unfoldable pub reason : Context → List ℕ → Test → List ℕ → Checked Reason
 reason c rec Required v = required v
 reason c rec Digits v = number v
 reason c rec NoBlank v = unbroken v
@@ -183,7 +185,7 @@ reason c rec IfPostal v = if_postal v
 reason c rec IfDigits v = if_number v
 reason c rec (InBook k) v = in_book (in_kind c.codes k) v
 reason c rec (IfInBook k) v = if_in_book (in_kind c.codes k) v
-reason c rec IfReporter v = choose c.reporter (required v) 0
+reason c rec IfReporter v = choose c.reporter (required v) sound
 reason c rec ReporterBetc v = choose c.reporter (in_book c.codes.betcs v) (if_in_book c.codes.betcs v)
 reason c rec AboveZero v = positive v
 reason c rec CheckLimit v = check_amount (alike (held rec is_voided_check) (0xF1 ∷ [])) v
@@ -191,8 +193,8 @@ reason c rec Symbol v = check_symbol v
 reason c rec Unrepeated v = unrepeated c.repeats v
 reason c rec HeaderNumber v = composed c.repeats (held rec check_symbol_number) (held rec check_first_serial_number) 2 v
 reason c rec PaymentNumber v = composed c.repeats c.symbol (held rec check_serial_number) 8 v
-reason c rec Serial v = number_is 7 (c.serial + c.payments) v
-reason c rec Count v = number_is 13 c.payments v
+reason c rec Serial v = number_is reasons.Unlike (c.serial + c.payments) v
+reason c rec Count v = number_is reasons.Count c.payments v
 reason c rec Sum v = amount_is (worth c.total) v
 
 -- the letter is one of these
@@ -210,6 +212,6 @@ abbrev pub rules_for : Letter → List Rule → List Rule
 rules_for l rs = rows 1 106 l rs
 
 -- what the rules find in a record with this number, in the order of the table
-unfoldable pub findings : Context → ℕ → List ℕ → List Rule → List Finding
+unfoldable pub findings : Context → ℕ → List ℕ → List Rule → List (Checked Finding)
 findings c n rec [] = []
 findings c n rec (r ∷ rs) = found (reason c rec r.test (held rec r.position)) n r.field ∷ findings c n rec rs

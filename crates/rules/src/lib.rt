@@ -9,7 +9,7 @@ ghost use Rattle.std.specs.Prelude.{◌≡◌, length};
 ghost use Rattle.record.specs.Fields.{check_symbol_number};
 ghost use Rattle.record.specs.Value.{seen, held};
 
-use calendar::{Month, Today};
+use calendar::{Day, Month};
 use money::Amount;
 use record::Line;
 use record::layout::CHECK_SYMBOL_NUMBER;
@@ -35,10 +35,10 @@ pub struct Context {
     pub codes: Codes,
     pub symbol: [u8; 4],
     pub serial: u64,
-    pub month: Month,
+    pub month: Option<Month>,
     pub payments: u64,
     pub total: Amount,
-    pub today: Today,
+    pub today: Option<Day>,
 }
 
 // A header's check symbol (field 18).
@@ -46,10 +46,8 @@ pub fn symbol_of(rec: &[u8], line: Line) -> [u8; 4]
     requires { length rec.now ≡ 850 }
     ensures { result ≡ held (seen line rec.now) check_symbol_number }
 {
-    let mut symbol = [0x40u8; 4];
     if record::field_blank(rec, line, CHECK_SYMBOL_NUMBER) {
-        return symbol;
+        return [0x40; 4];
     }
-    record::copy_field(rec, line, CHECK_SYMBOL_NUMBER, &mut symbol);
-    symbol
+    record::field_array(rec, line, CHECK_SYMBOL_NUMBER)
 }

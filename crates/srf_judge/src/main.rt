@@ -1,8 +1,9 @@
 // Judges the file on standard input with the code book in `book.bin`, and prints the rows or the refusal (01 Worked examples, the program).
 #![tactic(auto)]
 
-ghost use Rattle.std.specs.Prelude.{◌+◌, ◌<◌, ◌≤◌, length};
-ghost use Rattle.report.specs.Rows.{room_for};
+ghost use Rattle.std.specs.Prelude.{◌≤◌, length};
+
+use std::io;
 
 // The most bytes of a file and of a book, and one more, by which a longer one shows.
 const MOST: usize = 65536;
@@ -15,69 +16,56 @@ const REPORT: usize = 4096;
 // Where the head has the number of batches.
 const BATCHES: usize = 48;
 
-// A number of a row.
-fn number_at(report: &[u8], at: usize) -> u64
-    requires { at + 8 ≤ length report.now }
-{
-    let end = at + 8;
-    numbers::read(&report[at..end])
-}
-
-// The row at a place in the report: its eight numbers with single blanks.
-fn show_row(report: &[u8], at: usize)
-    requires { at + 64 ≤ length report.now }
-{
-    let last = at + 56;
-    let mut next = at;
-    while next < last {
-        io::print_decimal(1, number_at(report, next));
-        io::write_all(1, b" ");
-        next += 8;
+// The row's eight numbers with single blanks.
+fn show_row(rt: &impl Print, row: &[u8]) -> io::Result<()> {
+    for (k, number) in row.chunks_exact(8).enumerate() {
+        if k > 0 {
+            print!(rt; " ")?;
+        }
+        print!(rt; "{}", numbers::read(number))?;
     }
-    io::print_decimal(1, number_at(report, last));
-    io::write_all(1, b"\n");
+    println!(rt;)
 }
 
-// The rows of the batches, behind the head.
-fn show_batches(report: &[u8], batches: usize)
-    requires { (batches < 65536) × (room_for batches ≤ length report.now) }
-{
-    let mut place: usize = 0;
-    while place < batches {
-        show_row(report, report::row_at(place));
-        place += 1;
+// The rows that stand in a part of the report.
+fn show_rows(rt: &impl Print, rows: &[u8]) -> io::Result<()> {
+    for row in rows.chunks_exact(64) {
+        show_row(rt, row)?;
     }
+    Ok(())
 }
 
-fn show_report(report: &[u8])
+// The head, and the rows of the batches behind it.
+fn show_report(rt: &impl Print, report: &[u8]) -> io::Result<()>
     requires { 64 ≤ length report.now }
 {
-    show_row(report, 0);
-    let batches = number_at(report, BATCHES) as usize;
+    let batches = numbers::read(&report[BATCHES..BATCHES + 8]) as usize;
     if batches < 65536 && report::room_for(batches) <= report.len() {
-        show_batches(report, batches);
+        show_rows(rt, &report[..report::room_for(batches)])
+    } else {
+        show_rows(rt, &report[..64])
     }
 }
 
-fn show_answer(file: &[u8], book: &[u8]) {
-    let mut report = [0u8; REPORT];
+fn show_answer(rt: &impl Print, file: &[u8], book: &[u8]) -> io::Result<()> {
+    let mut report = [0; REPORT];
     let answer = judge::srf_judge(file, book, &mut report);
     if answer == 0 {
-        show_report(&report);
+        show_report(rt, &report)
     } else {
-        io::print_decimal(1, answer);
-        io::write_all(1, b"\n");
+        println!(rt; "{answer}")
     }
 }
 
+// Its exit status doesn't tell whether standard output took the lines.
 fn main(rt: HostRuntime) {
-    let mut book = [0u8; SPACE];
-    let mut file = [0u8; SPACE];
+    let mut book = [0; SPACE];
+    let mut file = [0; SPACE];
     let book_size = loading::read_file(&rt, "book.bin", &mut book);
-    let size = io::read_full(0, &mut file);
-    if size > MOST || book_size > MOST {
-        io::write_all(1, b"too long\n");
-        return;
-    }
-    show_answer(&file[..size], &book[..book_size]);
+    let size = loading::read_input(&mut file);
+    let _ = if size > MOST || book_size > MOST {
+        println!(rt; "too long")
+    } else {
+        show_answer(&rt, &file[..size], &book[..book_size])
+    };
 }

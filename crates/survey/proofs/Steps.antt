@@ -1,11 +1,12 @@
 -- A step of the pass: what it comes to, and the room that it needs and leaves.
 -- Assumes nothing.
-use mathlib.Core.Path.{◌≡◌, ◌∙◌}
-use mathlib.Core.Bool.{Bool}
+use mathlib.Core.Path.{◌≡◌, refl, sym, ◌∙◌}
+use mathlib.Core.Logic.{◌⊎◌, inl, inr}
+use mathlib.Core.Bool.{Bool, true, false, true≢false}
 use mathlib.Core.List.{List}
 use Prim.Native.Nat.{ℕ, ◌+◌, ◌<◌, ◌≤◌}
 use native.Mathlib.Omega.{arith}
-use lib.Dec.{eqb}
+use Rattle.std.specs.Prelude.{Option, Some, None, is_some}
 use lib.ListN.{length}
 use Rattle.record.specs.declared.codes.Code.{Code}
 use Rattle.record.specs.declared.codes.Code.TheVariants.{FileHeader, Batch, Detail, Party, Account, Procurement, BatchTrailer, FileTrailer, Unknown}
@@ -33,9 +34,21 @@ module _ (sum a : Amount) (x : ℕ) (e : a ≡ split x) where
   pub plus_split : (t : Amount) → t ≡ split (worth sum + worth a) → t ≡ split (worth sum + x)
   plus_split t h = h ∙ rw (e, worth_split)
 
+-- the first low byte up to a record: the known one stays, or else there is none, or it is the record's
+pub known_stays : (u : Option ℕ) (b : Bool) (n : ℕ) → (is_some u ≡ true) ⊎ (b ≡ true) → u ≡ choose (is_some u) u (choose b None (Some n))
+unfolding choose
+known_stays (Some k) b n h = refl
+known_stays None b n (inl e) = absurd (true≢false (sym e))
+known_stays None b n (inr e) = rw e
+
+pub known_first : (u : Option ℕ) (b : Bool) (n : ℕ) → is_some u ≡ false → b ≡ false → Some n ≡ choose (is_some u) u (choose b None (Some n))
+unfolding choose
+known_first (Some k) b n e f = absurd (true≢false e)
+known_first None b n e f = rw f
+
 -- what a step puts together
 pub step_is : (n : ℕ) (r : Record) (g : Going) (k : Code) → k ≡ code_of r → (s : State) → s ≡ next g.state k (held r payment_id)
-    → (u : ℕ) → u ≡ choose (eqb g.unclean 0) (choose (clean r) 0 n) g.unclean → (t : Amount) → t ≡ split (worth g.total + detail_cents r)
+    → (u : Option ℕ) → u ≡ choose (is_some g.unclean) g.unclean (choose (clean r) None (Some n)) → (t : Amount) → t ≡ split (worth g.total + detail_cents r)
     → record { state = s; unclean = u; total = t } ≡ stepped n r g
 unfolding stepped after
 step_is n r g k e s p u q t o = rw (p, q, o, e)

@@ -13,16 +13,15 @@ use Rattle.record.specs.Fields.{payment_id}
 use Rattle.record.specs.Value.{held}
 use Rattle.record.specs.Codes.{code_of}
 use Rattle.page.proofs.Shown.{shown_length, shown_bytes}
-use Rattle.nesting.specs.declared.Verdict.TheVariants.{Legal}
+use Rattle.std.specs.Prelude.{Ok, Err}
 use Rattle.nesting.specs.declared.reader.Place.TheVariants.{FileClosed}
 use Rattle.nesting.specs.Division.{Record}
 use Rattle.nesting.specs.Records.{cut, records, Cuttable}
-use Rattle.nesting.specs.Reader.{is_at, fits, follows}
+use Rattle.nesting.specs.Reader.{is_at, fits, follows, counted}
 use Rattle.nesting.proofs.Cuts.{bytes_from, from_length, record_from, cut_next}
-use Rattle.survey.specs.declared.Survey.{Survey}
 use Rattle.survey.specs.declared.pass.Going.{Going}
 use Rattle.survey.specs.Pass.{detail_cents, begun, stepped, survey_on, Room}
-use Rattle.survey.specs.Survey.{undivided, Surveyed}
+use Rattle.survey.specs.Survey.{Surveyed}
 use Rattle.survey.proofs.Details.{cents_small}
 use Rattle.survey.proofs.Steps.{room_begun, room_next}
 use Rattle.survey.proofs.Adequate.{surveyed}
@@ -34,7 +33,6 @@ left f n at = cut (n + 1) (length f / 850 - n) (drop at f)
 -- n records have been read, up to `at`: what is known says with what is left what the file says
 pub record Surveying (f : List ℕ) (g : Going) (n at : ℕ) : Type 0 where
   pub place : at ≡ n * 850
-  pub within : at ≤ length f
   pub decides : survey_on begun 0 (records f) ≡ survey_on g n (left f n at)
   pub room : Room (n + 1) g
 
@@ -42,7 +40,7 @@ pub surveying : (f : List ℕ) (g : Going) → g ≡ begun → Surveying f g 0 0
 unfolding records
 surveying f g e =
     let n : length f / 850 - 0 ≡ length f / 850 = omega arith in
-    rw e (record { place = refl; within = omega arith; decides = rw n; room = room_begun })
+    rw e (record { place = refl; decides = rw n; room = room_begun })
 
 module _ (ascii : Bool) (sent : List ℕ) (g : Going) (n at : ℕ) (w : Cuttable sent) (l : Surveying (shown ascii sent) g n at) where
   abbrev f : List ℕ
@@ -81,16 +79,15 @@ module _ (ascii : Bool) (sent : List ℕ) (g : Going) (n at : ℕ) (w : Cuttable
         rw q
         (record {
           place = omega (arith, l.place);
-          within = omega (arith, within_next h, as_long);
           decides = l.decides ∙ rw (left_next h, known true e);
           room = room_next (n + 1) g l.room here (here_small h);
         })
 
-    pub stopped : ((i : ℕ) → get_or sent i 0 < 256) → y ≡ false → (r : Survey) → r ≡ undivided (n + 1) → Surveyed f r
+    pub stopped : ((i : ℕ) → get_or sent i 0 < 256) → y ≡ false → Surveyed f (Err (n + 1))
     unfolding survey_on choose
-    stopped b e r q =
-        let s : survey_on g n (left f n at) ≡ undivided (n + 1) = rw (left_next h, known false e) in
-        subst (Surveyed f) (l.decides ∙ (s ∙ sym q)) (surveyed f (shown_bytes ascii sent b))
+    stopped b e =
+        let s : survey_on g n (left f n at) ≡ Err (n + 1) = rw (left_next h, known false e) in
+        subst (Surveyed f) (l.decides ∙ s) (surveyed f (shown_bytes ascii sent b))
 
   -- none is left
   module _ (b : (i : ℕ) → get_or sent i 0 < 256) (h : length sent ≤ at) where
@@ -100,14 +97,14 @@ module _ (ascii : Bool) (sent : List ℕ) (g : Going) (n at : ℕ) (w : Cuttable
         let e : length f / 850 - n ≡ 0 = omega (arith, l.place, as_long) in
         rw e
 
-    pub closed : is_at g.state FileClosed ≡ true → Surveyed f (record { nested = Legal g.state.batches g.state.payments; unclean = g.unclean; total = g.total })
+    pub closed : is_at g.state FileClosed ≡ true → Surveyed f (Ok (record { counts = counted g.state; unclean = g.unclean; total = g.total }))
     unfolding survey_on choose
     closed e =
-        let s : survey_on g n (left f n at) ≡ record { nested = Legal g.state.batches g.state.payments; unclean = g.unclean; total = g.total } = rw (left_none, e) in
+        let s : survey_on g n (left f n at) ≡ Ok (record { counts = counted g.state; unclean = g.unclean; total = g.total }) = rw (left_none, e) in
         subst (Surveyed f) (l.decides ∙ s) (surveyed f (shown_bytes ascii sent b))
 
-    pub unclosed : is_at g.state FileClosed ≡ false → (r : Survey) → r ≡ undivided (n + 1) → Surveyed f r
+    pub unclosed : is_at g.state FileClosed ≡ false → Surveyed f (Err (n + 1))
     unfolding survey_on choose
-    unclosed e r q =
-        let s : survey_on g n (left f n at) ≡ undivided (n + 1) = rw (left_none, e) in
-        subst (Surveyed f) (l.decides ∙ (s ∙ sym q)) (surveyed f (shown_bytes ascii sent b))
+    unclosed e =
+        let s : survey_on g n (left f n at) ≡ Err (n + 1) = rw (left_none, e) in
+        subst (Surveyed f) (l.decides ∙ s) (surveyed f (shown_bytes ascii sent b))

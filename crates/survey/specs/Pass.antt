@@ -1,5 +1,5 @@
 -- The pass from record to record (01 File answers, 5, 7 and 13). No promise about a file rests on it: the proofs tie it to Survey.antt.
-use Rattle.std.specs.Prelude.{◌≡◌, Bool, true, ℕ, ◌+◌, ◌*◌, ◌<◌, List, [], ◌∷◌, eqb}
+use Rattle.std.specs.Prelude.{◌≡◌, Bool, true, ℕ, ◌+◌, ◌*◌, ◌<◌, List, [], ◌∷◌, is_some, Some, None, Result, Ok, Err}
 use Rattle.std.proofs.Math.Seq.{slice}
 use Rattle.record.specs.Choice.{choose}
 use Rattle.record.specs.Fields.{amount}
@@ -7,14 +7,12 @@ use Rattle.record.specs.Value.{held}
 use Rattle.record.specs.Tests.{valid}
 use Rattle.record.specs.Codes.{code_of, is_detail}
 use Rattle.money.specs.Money.{worth, split, cents, Whole}
-use Rattle.nesting.specs.declared.Verdict.TheVariants.{Legal}
 use Rattle.nesting.specs.declared.reader.Place.TheVariants.{FileClosed}
 use Rattle.nesting.specs.Division.{Record}
-use Rattle.nesting.specs.Reader.{is_at, start, follows, after}
+use Rattle.nesting.specs.Reader.{is_at, start, follows, after, counted}
 use Rattle.characters.specs.Characters.{clean}
 use Rattle.survey.specs.declared.Survey.{Survey}
 use Rattle.survey.specs.declared.pass.Going.{Going}
-use Rattle.survey.specs.Survey.{undivided}
 
 -- the cents of a detail, 0 of any other record; an amount that is not 20 digits counts as zero (01 File answers, 13)
 abbrev pub detail_cents : Record → ℕ
@@ -35,23 +33,22 @@ HighIf said r = said ≡ true → valid r ≡ true
 
 -- before the first record
 unfoldable pub begun : Going
-begun = record { state = start; unclean = 0; total = split 0 }
+begun = record { state = start; unclean = None; total = split 0 }
 
 -- after the record with this number, which fits: the reader's state, the first record with a low byte, the sum of the details
 unfoldable pub stepped : ℕ → Record → Going → Going
 stepped n r g =
     record {
       state = after g.state r;
-      unclean = choose (eqb g.unclean 0) (choose (clean r) 0 n) g.unclean;
+      unclean = choose (is_some g.unclean) g.unclean (choose (clean r) None (Some n));
       total = split (worth g.total + detail_cents r);
     }
 
 -- what the pass says of the records that are left, n having been read
-unfoldable pub survey_on : Going → ℕ → List Record → Survey
+unfoldable pub survey_on : Going → ℕ → List Record → Result Survey ℕ
 survey_on g n [] =
-    choose (is_at g.state FileClosed)
-    (record { nested = Legal g.state.batches g.state.payments; unclean = g.unclean; total = g.total }) (undivided (n + 1))
-survey_on g n (r ∷ rs) = choose (follows g.state r) (survey_on (stepped (n + 1) r g) (n + 1) rs) (undivided (n + 1))
+    choose (is_at g.state FileClosed) (Ok (record { counts = counted g.state; unclean = g.unclean; total = g.total })) (Err (n + 1))
+survey_on g n (r ∷ rs) = choose (follows g.state r) (survey_on (stepped (n + 1) r g) (n + 1) rs) (Err (n + 1))
 
 -- the counts and the sum have room for the record n
 pub record Room (n : ℕ) (g : Going) : Type 0 where

@@ -1,5 +1,5 @@
 // The pass from record to record: what is known after a record, and what one more adds to it (01 File answers, 5, 7 and 13).
-ghost use Rattle.std.specs.Prelude.{◌≡◌, true, ◌+◌, ◌≤◌, eqb, length};
+ghost use Rattle.std.specs.Prelude.{◌≡◌, true, ◌+◌, ◌≤◌, length, is_some, Some, None};
 ghost use Rattle.record.specs.Choice.{choose};
 ghost use Rattle.record.specs.Fields.{payment_id};
 ghost use Rattle.record.specs.Value.{seen, held};
@@ -16,31 +16,31 @@ use record::Line;
 use record::codes::{Code, is_detail};
 use record::layout::AMOUNT;
 
-// What is known after a record: the reader's state, the first record with a byte below hex 40 outside its fillers, or 0, and the exact
-// sum of the details.
+// What is known after a record: the reader's state, the first record with a byte below hex 40 outside its fillers, and the exact sum of the
+// details.
 #[derive(Clone, Copy)]
 pub(crate) struct Going {
     pub(crate) state: State,
-    pub(crate) unclean: usize,
+    pub(crate) unclean: Option<usize>,
     pub(crate) total: Amount,
 }
 
-// The first record with a low byte up to this one, or 0: the earlier one that is known, or else this one where it has such a byte. A record that is
-// high has none, not in its fillers either.
-fn note_unclean(known: usize, rec: &[u8], line: Line, code: Code, high: bool) -> usize
+// The first record with a low byte up to this one: the earlier one that is known, or else this one where it has such a byte. A record that is high
+// has none, not in its fillers either.
+fn note_unclean(
+    known: Option<usize>,
+    rec: &[u8],
+    line: Line,
+    code: Code,
+    high: bool,
+) -> Option<usize>
     requires { (850 ≤ length rec.now) × (code ≡ code_of (seen line rec.now)) × HighIf high (seen line rec.now) }
-    ensures { result ≡ choose (eqb known 0) (choose (clean (seen line rec.now)) 0 line.number) known }
+    ensures { result ≡ choose (is_some known) known (choose (clean (seen line rec.now)) None (Some line.number)) }
 {
-    if known != 0 {
+    if known.is_some() || high || characters::is_clean(rec, line, code) {
         return known;
     }
-    if high {
-        return 0;
-    }
-    if characters::is_clean(rec, line, code) {
-        return 0;
-    }
-    line.number
+    Some(line.number)
 }
 
 // What the record, which has this code, adds to the sum: its amount where it is a detail (01 File answers, 13).
@@ -59,20 +59,17 @@ fn add_detail(sum: Amount, rec: &[u8], line: Line, code: Code) -> Amount
     requires { (850 ≤ length rec.now) × (code ≡ code_of (seen line rec.now)) × Fit sum (split (detail_cents (seen line rec.now))) }
     ensures { result ≡ split (worth sum + detail_cents (seen line rec.now)) }
 {
-    let more = detail_amount(rec, line, code);
-    money::plus(sum, more)
+    money::plus(sum, detail_amount(rec, line, code))
 }
 
 // Before the first record.
 pub(crate) fn start() -> Going
     ensures { result ≡ begun }
 {
-    let state = reader::start();
-    let total = Amount { high: 0, low: 0 };
     Going {
-        state,
-        unclean: 0,
-        total,
+        state: reader::start(),
+        unclean: None,
+        total: Amount { high: 0, low: 0 },
     }
 }
 
@@ -81,14 +78,9 @@ pub(crate) fn step(rec: &[u8], line: Line, code: Code, high: bool, going: Going)
     requires { (850 ≤ length rec.now) × (line.number ≤ 65535) × (code ≡ code_of (seen line rec.now)) × (fits going.state code (held (seen line rec.now) payment_id) ≡ true) × HighIf high (seen line rec.now) × Room line.number going }
     ensures { result ≡ stepped line.number (seen line rec.now) going }
 {
-    let before = going.state;
-    let state = reader::after(rec, line, code, before);
-    let unclean = note_unclean(going.unclean, rec, line, code, high);
-    let sum = going.total;
-    let total = add_detail(sum, rec, line, code);
     Going {
-        state,
-        unclean,
-        total,
+        state: reader::after(rec, line, code, going.state),
+        unclean: note_unclean(going.unclean, rec, line, code, high),
+        total: add_detail(going.total, rec, line, code),
     }
 }

@@ -12,8 +12,8 @@ use lib.Dec.{eqb, ltb}
 use lib.ListN.{length, take, drop, get_or, length-take, length-drop, drop_of_length-le}
 use lib.Seq.{drop-cons, take-take, drop-drop, get_or-take, get_or-drop}
 use Rattle.record.specs.declared.Field.{Field}
-use Rattle.record.specs.declared.Order.{Order}
-use Rattle.record.specs.declared.Order.TheVariants.{Before, Same, After}
+use Rattle.std.specs.declared.cmp.Ordering.{Ordering}
+use Rattle.std.specs.declared.cmp.Ordering.TheVariants.{Less, Equal, Greater}
 use Rattle.page.specs.CodePage.{shown}
 use Rattle.record.specs.Choice.{choose}
 use Rattle.record.specs.Fields.{fixed, business_event_type_code}
@@ -163,10 +163,10 @@ pub last_field : (k : ℕ) → k < 9 → (k ≡ 0 → ⊥) → (k ≡ 1 → ⊥)
 last_field k h n0 n1 n2 n3 n4 n5 n6 n7 = last_at k h (past_seven k (past_three k n0 n1 n2 n3) n4 n5 n6 n7)
 
 -- the first of two orders that is not the same
-unfoldable deciding : Order → Order → Order
-deciding Before o = Before
-deciding Same o = o
-deciding After o = After
+unfoldable deciding : Ordering → Ordering → Ordering
+deciding Less o = Less
+deciding Equal o = o
+deciding Greater o = Greater
 
 beside : (xs ys us vs : List ℕ) → length xs ≡ length ys → order (xs ++ us) (ys ++ vs) ≡ deciding (order xs ys) (order us vs)
 unfolding order deciding choose
@@ -176,7 +176,7 @@ beside (x ∷ xs) [] us vs n = absurd (omega arith)
 beside (x ∷ xs) (y ∷ ys) us vs n = go (ltb x y) (ltb y x) (beside xs ys us vs (omega arith))
   where
     go : (a b : Bool) → order (xs ++ us) (ys ++ vs) ≡ deciding (order xs ys) (order us vs)
-        → choose a Before (choose b After (order (xs ++ us) (ys ++ vs))) ≡ deciding (choose a Before (choose b After (order xs ys))) (order us vs)
+        → choose a Less (choose b Greater (order (xs ++ us) (ys ++ vs))) ≡ deciding (choose a Less (choose b Greater (order xs ys))) (order us vs)
     go true b m = refl
     go false true m = refl
     go false false m = m
@@ -221,7 +221,7 @@ module _ (ascii own : Bool) (rec other : List ℕ) where
   -- the field at k
   module _ (m : length rec ≡ 850) (n : length other ≡ 850) (k : ℕ) (l : Left k) where
     module _ (h : k < 9) (f : Field) (e : f ≡ kind_field k) where
-      abbrev rest : Order
+      abbrev rest : Ordering
       rest = order (held_by a (drop (suc k) kind_fields)) (held_by b (drop (suc k) kind_fields))
 
       left_here : order (kind a) (kind b) ≡ deciding (order (held a f) (held b f)) rest
@@ -232,20 +232,28 @@ module _ (ascii own : Bool) (rec other : List ℕ) where
           let v = held_length own other f (has_start k h f e, has_end k h f e other n) in
           l ∙ rw (drop-cons kind_fields k (fixed 1 0), ← e) (beside (held a f) (held b f) _ _ (w ∙ sym v))
 
-      module _ (r : Order) (q : r ≡ order (held a f) (held b f)) where
-        pub left_before : r ≡ Before → Before ≡ order (kind a) (kind b)
+      module _ (r : Ordering) (q : r ≡ order (held a f) (held b f)) where
+        left_before : r ≡ Less → Less ≡ order (kind a) (kind b)
         unfolding deciding
         left_before t = sym (left_here ∙ rw (← q, t))
 
-        pub left_after : r ≡ After → After ≡ order (kind a) (kind b)
+        left_after : r ≡ Greater → Greater ≡ order (kind a) (kind b)
         unfolding deciding
         left_after t = sym (left_here ∙ rw (← q, t))
 
-        pub left_next : r ≡ Same → Left (k + 1)
+        pub left_found : (r ≡ Equal → ⊥) → r ≡ order (kind a) (kind b)
+        left_found t = go r refl
+          where
+            go : (o : Ordering) → r ≡ o → r ≡ order (kind a) (kind b)
+            go Less e = e ∙ left_before e
+            go Equal e = absurd (t e)
+            go Greater e = e ∙ left_after e
+
+        pub left_next : r ≡ Equal → Left (k + 1)
         unfolding Left deciding
         left_next t = left_here ∙ rw (← q, t, add-one)
 
-    pub left_end : 9 ≤ k → Same ≡ order (kind a) (kind b)
+    pub left_end : 9 ≤ k → Equal ≡ order (kind a) (kind b)
     unfolding Left held_by order
     left_end h =
         let c : length kind_fields ≤ k = omega (arith, fields_nine) in

@@ -1,13 +1,15 @@
--- A place put into a table, place by place: below the seat the old, at the seat the new, above it the old one before.
+-- A place put into a table: below the seat the old, at the seat the new, above it the old one before.
 -- Assumes nothing.
-use mathlib.Core.Path.{◌≡◌, refl, sym, ap, ◌∙◌}
-use mathlib.Core.List.{List, ◌∷◌, ◌++◌, append_assoc}
+use mathlib.Core.Path.{◌≡◌, sym, ap, ◌∙◌}
+use mathlib.Core.List.{List, [], ◌∷◌, ◌++◌, append_assoc}
 use mathlib.Core.Logic.{⊎_elim}
 use Prim.Native.Nat.{ℕ, suc, ◌+◌, ◌-◌, ◌≤◌, ◌<◌}
 use native.Mathlib.Nat.{eq-zero-or-pos}
+use native.Mathlib.Numerals.{add-one}
 use native.Mathlib.Omega.{arith}
-use lib.ListN.{length, take, drop, get_or, set, length-append, length-drop, length-set, get_or-append}
-use lib.Seq.{length-take-le, get_or-append-add, get_or_at, get_or-take, get_or-drop, get_or-set_same, get_or-set_other, ext_get_or, take_at, take-add}
+use Rattle.std.specs.List.{copy_within}
+use lib.ListN.{length, take, drop, get_or, set, length-append, length-drop, get_or-append}
+use lib.Seq.{length-take-le, get_or-append-add, get_or_at, get_or-take, get_or-drop, take_at, take-add, take-suc, set_at}
 use Rattle.tables.specs.Tables.{inserted_at}
 
 -- behind the first part
@@ -87,53 +89,12 @@ module _ (table : List ℕ) (count seat place : ℕ) (s : seat ≤ count) (c : c
       let e : seat + (count - seat) ≡ count = omega arith in
       sym (take-add seat (count - seat) table) ∙ ap (λ (n : ℕ). take n table) e
 
--- the places from i on have moved up by one
-pub record Shifted (old : List ℕ) (count seat : ℕ) (table : List ℕ) (i : ℕ) : Type 0 where
-  pub size : length table ≡ length old
-  pub begin : seat ≤ i
-  pub end : i ≤ count
-  pub below : (j : ℕ) → j ≤ i → get_or table j 0 ≡ get_or old j 0
-  pub shift : (j : ℕ) → i < j → j ≤ count → get_or table j 0 ≡ get_or old (j - 1) 0
-  pub above : (j : ℕ) → count < j → get_or table j 0 ≡ get_or old j 0
-
-pub shifted_none : (old : List ℕ) (count seat : ℕ) → seat ≤ count → Shifted old count seat old count
-shifted_none old count seat h = record {
-  size = refl;
-  begin = h;
-  end = omega arith;
-  below = λ j l. refl;
-  shift = λ j l k. absurd (omega arith);
-  above = λ j l. refl;
-}
-
-module _ (old : List ℕ) (count seat : ℕ) (table : List ℕ) (i : ℕ) (c : count < length old) (m : Shifted old count seat table i) where
-  pub shifted_next : seat < i → Shifted old count seat (set table i (get_or table (i - 1) 0)) (i - 1)
-  shifted_next h = record {
-    size = length-set table i _ ∙ m.size;
-    begin = omega arith;
-    end = omega (arith, m.end);
-    below = λ j l. get_or-set_other table i j _ 0 (λ e. omega arith) ∙ m.below j (omega arith);
-    shift = λ j l k. ⊎_elim
-        (λ (q : j - i ≡ 0).
-        let e : j ≡ i = omega arith in
-        rw e (get_or-set_same table i _ 0 (omega (arith, m.size, m.end)) ∙ m.below (i - 1) (omega arith)))
-        (λ (q : 0 < j - i). get_or-set_other table i j _ 0 (λ e. omega arith) ∙ m.shift j (omega arith) k)
-        (eq-zero-or-pos (j - i));
-    above = λ j l. get_or-set_other table i j _ 0 (λ e. omega (arith, m.end)) ∙ m.above j l;
-  }
-
-  pub shifted_end : (place : ℕ) → i ≤ seat → set table seat place ≡ inserted_at old count seat place
-  shifted_end place h =
-      let s : seat ≤ count = omega (arith, m.begin, m.end) in
-      let n : length (set table seat place) ≡ length old = length-set table seat place ∙ m.size in
-      ext_get_or 0 _ _ (n ∙ sym (inserted_length old count seat place s c)) (λ j l.
-      ⊎_elim
-      (λ (q : j - count ≡ 0). near j s (omega arith) (source old count seat place s c j (omega arith)))
-      (λ (q : 0 < j - count).
-      get_or-set_other table seat j _ 0 (λ e. omega arith) ∙ m.above j (omega arith) ∙ sym (inserted_above old count seat place s c j (omega arith)))
-      (eq-zero-or-pos (j - count)))
-    where
-      near : (j : ℕ) (s : seat ≤ count) → j ≤ count → Source old count seat place s c j → get_or (set table seat place) j 0 ≡ get_or (inserted_at old count seat place) j 0
-      near j s k (under l e) = get_or-set_other table seat j _ 0 (λ q. omega arith) ∙ m.below j (omega (arith, m.begin)) ∙ sym e
-      near j s k (seated l e) = rw l (get_or-set_same table seat place 0 (omega (arith, m.size))) ∙ sym e
-      near j s k (over l e) = get_or-set_other table seat j _ 0 (λ q. omega arith) ∙ m.shift j (omega arith) (omega arith) ∙ sym e
+  -- what is copied up by one place, and the place that is put at the seat
+  pub inserted : set (copy_within table seat count (seat + 1)) seat place ≡ inserted_at table count seat place
+  unfolding inserted_at
+  inserted =
+      let n : seat + 1 + (count - seat) ≡ count + 1 = omega arith in
+      let rest = take (count - seat) (drop seat table) ++ drop (count + 1) table in
+      let t : take (seat + 1) table ≡ take seat table ++ get_or table seat 0 ∷ [] = rw add-one (take-suc table seat 0 (omega arith)) in
+      let q : take (seat + 1) table ++ rest ≡ take seat table ++ (get_or table seat 0 ∷ rest) = rw t (append_assoc (take seat table) (get_or table seat 0 ∷ []) rest) in
+      rw (n, append_assoc (take (seat + 1) table) (take (count - seat) (drop seat table)) (drop (count + 1) table), q) (set_at (take seat table) (get_or table seat 0) rest place seat front)

@@ -10,8 +10,8 @@ use native.Mathlib.Omega.{arith}
 use lib.ListN.{length, take, get_or}
 use lib.Seq.{length-take-le, get_or-take}
 use Rattle.record.specs.declared.Field.{Field}
-use Rattle.record.specs.declared.Order.{Order}
-use Rattle.record.specs.declared.Order.TheVariants.{Before, Same, After}
+use Rattle.std.specs.declared.cmp.Ordering.{Ordering}
+use Rattle.std.specs.declared.cmp.Ordering.TheVariants.{Less, Equal, Greater}
 use Rattle.page.specs.CodePage.{shown}
 use Rattle.record.specs.Value.{held}
 use Rattle.record.specs.Ordering.{order, is_before}
@@ -36,7 +36,7 @@ module _ (key : Key) (field : Field) (e : key ≡ Value field) (i : InRecord key
   value_end place xs h = rw (from_length xs (place * 850) h) inside.1
 
 -- how two values stand to each other, as the code reads them
-module _ (ascii : Bool) (first place other : ℕ) (key : Key) (xs : List ℕ) (r : Order) where
+module _ (ascii : Bool) (first place other : ℕ) (key : Key) (xs : List ℕ) (r : Ordering) where
   pub ordered_values : (field : Field) → key ≡ Value field → r ≡ order (held (record_from ascii xs (place * 850)) field) (held (record_from ascii xs (other * 850)) field)
       → r ≡ order (value_at first key (shown ascii xs) place) (value_at first key (shown ascii xs) other)
   ordered_values field e h = h ∙ rw (e, from_place ascii first place xs, from_place ascii first other xs)
@@ -84,7 +84,7 @@ module _ (first : ℕ) (key : Key) (bytes : List ℕ) where
     x = value_at first key bytes place
 
     -- by the keys of a table
-    parted_by : (m : ℕ) → m ≤ count → ((j : ℕ) → j < m → order (key_in table j) x ≡ Before) → ((j : ℕ) → m ≤ j → j < count → is_before (order (key_in table j) x) ≡ false) → Parted x (kept first key bytes table count) m
+    parted_by : (m : ℕ) → m ≤ count → ((j : ℕ) → j < m → order (key_in table j) x ≡ Less) → ((j : ℕ) → m ≤ j → j < count → is_before (order (key_in table j) x) ≡ false) → Parted x (kept first key bytes table count) m
     parted_by m h b a = record {
       size = omega (arith, kept_length table count t.size);
       below = λ j l. rw (kept_at table count t.size j (omega arith)) (b j l);
@@ -94,7 +94,7 @@ module _ (first : ℕ) (key : Key) (bytes : List ℕ) where
     }
 
     -- where it meets the value
-    module _ (m : ℕ) (h : m < count) (e : order (key_in table m) x ≡ Same) where
+    module _ (m : ℕ) (h : m < count) (e : order (key_in table m) x ≡ Equal) where
       taken_rank : m ≡ rank x (kept first key bytes table count)
       taken_rank =
           parted_rank _ _ _ (parted_by m (omega arith) (same_below (key_in table) count x t.ascending m e h) (λ j l n.
@@ -113,17 +113,17 @@ module _ (first : ℕ) (key : Key) (bytes : List ℕ) where
         next_stands : Stands first (get_or table (middle low high) 0) bytes
         next_stands = t.stand (middle low high) (omega (arith, b.inside))
 
-        module _ (r : Order) (e : r ≡ order (key_in table (middle low high)) x) where
-          pub sought_raised : r ≡ Before → Sought table count place (middle low high + 1) high
+        module _ (r : Ordering) (e : r ≡ order (key_in table (middle low high)) x) where
+          pub sought_raised : r ≡ Less → Sought table count place (middle low high + 1) high
           sought_raised q = raised (key_in table) count x t.ascending (middle low high) low high b (omega arith) (sym e ∙ q)
 
-          pub sought_lowered : r ≡ After → Sought table count place low (middle low high)
+          pub sought_lowered : r ≡ Greater → Sought table count place low (middle low high)
           sought_lowered q = lowered (key_in table) count x t.ascending (middle low high) low high b (omega arith) (omega arith) (sym e ∙ q)
 
-          pub seat_taken : r ≡ Same → middle low high ≡ rank x (kept first key bytes table count)
+          pub seat_taken : r ≡ Equal → middle low high ≡ rank x (kept first key bytes table count)
           seat_taken q = taken_rank (middle low high) (omega (arith, b.inside)) (sym e ∙ q)
 
-          pub value_known : r ≡ Same → true ≡ member x (kept first key bytes table count)
+          pub value_known : r ≡ Equal → true ≡ member x (kept first key bytes table count)
           value_known q = taken_known (middle low high) (omega (arith, b.inside)) (sym e ∙ q)
 
       -- nothing is left

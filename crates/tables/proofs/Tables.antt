@@ -8,7 +8,7 @@ use Prim.Native.Nat.{ℕ, ◌+◌, ◌-◌, ◌≤◌, ◌<◌}
 use native.Mathlib.Nat.{eq-zero-or-pos}
 use native.Mathlib.Omega.{arith}
 use lib.ListN.{length, take, drop, get_or}
-use Rattle.record.specs.declared.Order.TheVariants.{Before}
+use Rattle.std.specs.declared.cmp.Ordering.TheVariants.{Less}
 use Rattle.record.specs.Choice.{◌or◌}
 use Rattle.page.specs.CodePage.{shown}
 use Rattle.record.specs.Tests.{alike}
@@ -76,10 +76,10 @@ module _ (first : ℕ) (key : Key) (bytes : List ℕ) where
         let k : j < count = omega (arith, kept_length first key bytes table count t.size) in
         rw (kept_at first key bytes table count t.size i (omega arith), kept_at first key bytes table count t.size j k) (t.ascending i j l k))
 
-    lower : (j : ℕ) → j < seat → order (key_in first key bytes table j) x ≡ Before
+    lower : (j : ℕ) → j < seat → order (key_in first key bytes table j) x ≡ Less
     lower j h = rw (← kept_at first key bytes table count t.size j (omega (arith, seat_fits))) (parted.below j h)
 
-    upper : (j : ℕ) → seat ≤ j → j < count → order x (key_in first key bytes table j) ≡ Before
+    upper : (j : ℕ) → seat ≤ j → j < count → order x (key_in first key bytes table j) ≡ Less
     upper j l h =
         let k : j < length (kept first key bytes table count) = omega (arith, kept_length first key bytes table count t.size) in
         turn_after _ _ (rw (← kept_at first key bytes table count t.size j h) (parted_after x _ seat parted n j l k))
@@ -100,7 +100,7 @@ module _ (first : ℕ) (key : Key) (bytes : List ℕ) where
         standing j h (seated l e) = rw e s
         standing j h (over l e) = rw e (t.stand (j - 1) (omega arith))
 
-        rising : (i j : ℕ) → i < j → j ≤ count → Source table count seat place seat_fits room i → Source table count seat place seat_fits room j → order (key_in first key bytes after i) (key_in first key bytes after j) ≡ Before
+        rising : (i j : ℕ) → i < j → j ≤ count → Source table count seat place seat_fits room i → Source table count seat place seat_fits room j → order (key_in first key bytes after i) (key_in first key bytes after j) ≡ Less
         rising i j l h (under a e) (under b f) = rw (e, f) (t.ascending i j l (omega (arith, seat_fits)))
         rising i j l h (under a e) (seated b f) = rw (e, f) (lower i a)
         rising i j l h (under a e) (over b f) = rw (e, f) (t.ascending i (j - 1) (omega arith) (omega arith))

@@ -6,8 +6,8 @@ use mathlib.Core.List.{List, [], ◌∷◌, ◌++◌}
 use Prim.Native.Nat.{ℕ, zero, suc, ◌≤◌, ◌<◌}
 use native.Mathlib.Omega.{arith}
 use lib.ListN.{length, get_or}
-use Rattle.record.specs.declared.Order.{Order}
-use Rattle.record.specs.declared.Order.TheVariants.{Before, Same, After}
+use Rattle.std.specs.declared.cmp.Ordering.{Ordering}
+use Rattle.std.specs.declared.cmp.Ordering.TheVariants.{Less, Equal, Greater}
 use Rattle.record.specs.Choice.{◌or◌, choose}
 use Rattle.record.specs.Tests.{alike}
 use Rattle.record.specs.Ordering.{order, is_before}
@@ -28,15 +28,15 @@ or_comm false true = refl
 or_comm false false = refl
 
 -- what the test of an order says of each
-pub before_tells : (o : Order) → o ≡ Before → is_before o ≡ true
+pub before_tells : (o : Ordering) → o ≡ Less → is_before o ≡ true
 unfolding is_before
 before_tells o e = rw e
 
-pub after_tells : (o : Order) → o ≡ After → is_before o ≡ false
+pub after_tells : (o : Ordering) → o ≡ Greater → is_before o ≡ false
 unfolding is_before
 after_tells o e = rw e
 
-pub same_tells : (o : Order) → o ≡ Same → is_before o ≡ false
+pub same_tells : (o : Ordering) → o ≡ Equal → is_before o ≡ false
 unfolding is_before
 same_tells o e = rw e
 
@@ -68,7 +68,7 @@ module _ (x : List ℕ) where
   -- the first m values stand before x, and none after them does
   pub record Parted (ys : List (List ℕ)) (m : ℕ) : Type 0 where
     pub size : m ≤ length ys
-    pub below : (j : ℕ) → j < m → order (get_or ys j []) x ≡ Before
+    pub below : (j : ℕ) → j < m → order (get_or ys j []) x ≡ Less
     pub from : (j : ℕ) → m ≤ j → j < length ys → is_before (order (get_or ys j []) x) ≡ false
 
   rank_no : (y : List ℕ) (ys : List (List ℕ)) → is_before (order y x) ≡ false → rank x ys ≡ rank x (y ∷ ys)
@@ -108,18 +108,18 @@ module _ (x : List ℕ) where
       ∙ rank_yes y ys (before_tells _ (p.below 0 (omega arith)))
 
   -- values that ascend are parted there
-  pub rank_parted : (ys : List (List ℕ)) → ((i j : ℕ) → i < j → j < length ys → order (get_or ys i []) (get_or ys j []) ≡ Before) → Parted ys (rank x ys)
+  pub rank_parted : (ys : List (List ℕ)) → ((i j : ℕ) → i < j → j < length ys → order (get_or ys i []) (get_or ys j []) ≡ Less) → Parted ys (rank x ys)
   unfolding rank is_before
   rank_parted [] up = record { size = omega arith; below = λ j l. absurd (omega arith); from = λ j l h. absurd (omega arith) }
   rank_parted (y ∷ ys) up = go (is_before (order y x)) refl (rank_parted ys (λ i j l h. up (suc i) (suc j) (omega arith) (omega arith)))
     where
       -- what follows a value that is not before x is not before it either
-      later : is_before (order y x) ≡ false → (o : Order) (j : ℕ) → j < length ys → order (get_or ys j []) x ≡ o → is_before o ≡ false
-      later f Before j h e = absurd (true≢false (sym (before_tells _ (order_transitive _ _ _ (up 0 (suc j) (omega arith) (omega arith)) e)) ∙ f))
-      later f Same j h e = refl
-      later f After j h e = refl
+      later : is_before (order y x) ≡ false → (o : Ordering) (j : ℕ) → j < length ys → order (get_or ys j []) x ≡ o → is_before o ≡ false
+      later f Less j h e = absurd (true≢false (sym (before_tells _ (order_transitive _ _ _ (up 0 (suc j) (omega arith) (omega arith)) e)) ∙ f))
+      later f Equal j h e = refl
+      later f Greater j h e = refl
 
-      past : (m : ℕ) → order y x ≡ Before → Parted ys m → (j : ℕ) → j < suc m → order (get_or (y ∷ ys) j []) x ≡ Before
+      past : (m : ℕ) → order y x ≡ Less → Parted ys m → (j : ℕ) → j < suc m → order (get_or (y ∷ ys) j []) x ≡ Less
       past m e p zero l = e
       past m e p (suc j) l = p.below j (omega arith)
 
@@ -138,11 +138,11 @@ module _ (x : List ℕ) where
           rw (← rank_no y ys e, ← n) (record { size = omega arith; below = λ j l. absurd (omega arith); from = λ j l h. none e j h })
 
   -- where x is none of them, those from there on stand after it
-  pub parted_after : (ys : List (List ℕ)) (m : ℕ) → Parted ys m → member x ys ≡ false → (j : ℕ) → m ≤ j → j < length ys → order (get_or ys j []) x ≡ After
+  pub parted_after : (ys : List (List ℕ)) (m : ℕ) → Parted ys m → member x ys ≡ false → (j : ℕ) → m ≤ j → j < length ys → order (get_or ys j []) x ≡ Greater
   unfolding is_before
   parted_after ys m p e j l h = go _ refl (p.from j l h)
     where
-      go : (o : Order) → order (get_or ys j []) x ≡ o → is_before o ≡ false → o ≡ After
-      go Before q f = absurd (true≢false f)
-      go Same q f = absurd (missing ys e j h (order_equal _ _ q))
-      go After q f = refl
+      go : (o : Ordering) → order (get_or ys j []) x ≡ o → is_before o ≡ false → o ≡ Greater
+      go Less q f = absurd (true≢false f)
+      go Equal q f = absurd (missing ys e j h (order_equal _ _ q))
+      go Greater q f = refl

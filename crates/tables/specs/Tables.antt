@@ -1,6 +1,6 @@
 -- A table of places: records in ascending order of a key, what a field holds or a DT's kind, each value once.
 use Rattle.std.specs.Prelude.{ℕ, ◌+◌, ◌-◌, ◌*◌, ◌<◌, ◌≤◌, ◌≡◌, Bool, false, not, List, [], ◌∷◌, ◌++◌, ltb, length, take, drop, get_or}
-use Rattle.record.specs.declared.Order.TheVariants.{Before}
+use Rattle.std.specs.declared.cmp.Ordering.TheVariants.{Less}
 use Rattle.record.specs.Choice.{◌and◌, ◌or◌, choose}
 use Rattle.record.specs.Value.{held}
 use Rattle.record.specs.Tests.{alike}
@@ -54,7 +54,7 @@ module _ (first : ℕ) (key : Key) (bytes : List ℕ) where
     pub size : count ≤ length table
     pub few : length table ≤ 65536
     pub stand : (i : ℕ) → i < count → Stands first (get_or table i 0) bytes
-    pub ascending : (i j : ℕ) → i < j → j < count → order (value_at (get_or table i 0)) (value_at (get_or table j 0)) ≡ Before
+    pub ascending : (i j : ℕ) → i < j → j < count → order (value_at (get_or table i 0)) (value_at (get_or table j 0)) ≡ Less
 
   -- the values that the table holds
   abbrev pub kept : List ℕ → ℕ → List (List ℕ)

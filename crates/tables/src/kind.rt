@@ -8,7 +8,8 @@ ghost use Rattle.tables.specs.Comparing.{stretch, common, kind_field, Under, Ove
 use record::layout::{
     AGENCY_IDENTIFIER, BUSINESS_EVENT_TYPE_CODE, MAIN_ACCOUNT_CODE, SUB_ACCOUNT_CODE,
 };
-use record::{Field, Justification, Line, Order};
+use record::{Field, Justification, Line};
+use std::cmp::Ordering;
 
 // Field 78.
 const SUB_LEVEL_PREFIX_CODE: Field = Field {
@@ -94,35 +95,26 @@ fn first_unlike(rec: &[u8], other: &[u8]) -> usize
     requires { (length rec.now ≡ 850) × (length other.now ≡ 850) }
     ensures { result ≡ common (stretch rec.now) (stretch other.now) }
 {
-    let mut i: usize = 0;
-    while i < BYTES {
+    for i in 0..BYTES {
         if rec[22 + i] != other[22 + i] {
             return i;
         }
-        i += 1;
     }
     BYTES
 }
 
 // How the kind of one record stands to that of another of the file. Fields before the first byte that differs as it was sent hold the same.
-pub(crate) fn kind_order(rec: &[u8], line: Line, other: &[u8], other_line: Line) -> Order
+pub(crate) fn kind_order(rec: &[u8], line: Line, other: &[u8], other_line: Line) -> Ordering
     requires { (length rec.now ≡ 850) × (length other.now ≡ 850) × (line.ascii ≡ other_line.ascii) }
     ensures { result ≡ order (kind (seen line rec.now)) (kind (seen other_line other.now)) }
 {
-    let mut k = field_at(first_unlike(rec, other));
-    while k < FIELDS {
-        let field = kind_field(k);
-        match record::fields_order(rec, line, other, other_line, field) {
-            Order::Before => {
-                return Order::Before;
-            }
-            Order::After => {
-                return Order::After;
-            }
-            Order::Same => {
-                k += 1;
+    for k in field_at(first_unlike(rec, other))..FIELDS {
+        match record::fields_order(rec, line, other, other_line, kind_field(k)) {
+            Ordering::Equal => {}
+            found => {
+                return found;
             }
         }
     }
-    Order::Same
+    Ordering::Equal
 }

@@ -3,12 +3,13 @@
 
 mod kind;
 
-ghost use Rattle.std.specs.Prelude.{◌≡◌, ◌*◌, ◌<◌, ◌≤◌, length};
+ghost use Rattle.std.specs.Prelude.{◌≡◌, ◌*◌, ◌<◌, ◌≤◌, length, MatchResult, is_ok};
 ghost use Rattle.record.specs.Value.{seen};
 ghost use Rattle.record.specs.Ordering.{order};
 ghost use Rattle.tables.specs.Tables.{Stands, InRecord, Tabled, value_at, kept, member, rank, inserted_at, entry_of, table_after};
 
-use record::{Field, Line, Order};
+use record::{Field, Line};
+use std::cmp::Ordering;
 
 // What became of a record: whether the table held its value before, and how many places the table holds after it.
 #[derive(Clone, Copy)]
@@ -17,22 +18,15 @@ pub struct Entry {
     pub count: usize,
 }
 
-// What a table is ordered by: what a field of the records holds, or the kind of a DT.
+// What a table is ordered by: what a field of the records holds, or the kind of a DT. It is data, not a switch: a value of a key has its field.
 #[derive(Clone, Copy)]
 pub enum Key {
     Value(Field),
     Kind,
 }
 
-// Where a value stands in a table, or would stand.
-#[derive(Clone, Copy)]
-struct Seat {
-    at: usize,
-    taken: bool,
-}
-
 // How the value of the record at one place stands to that of the record at another.
-fn compare(file: &[u8], first: Line, place: usize, other: usize, key: Key) -> Order
+fn compare(file: &[u8], first: Line, place: usize, other: usize, key: Key) -> Ordering
     requires { Stands first.number place file.now × Stands first.number other file.now × InRecord key }
     ensures { result ≡ order (value_at first.number key (seen first file.now) place) (value_at first.number key (seen first file.now) other) }
 {
@@ -53,11 +47,19 @@ fn compare(file: &[u8], first: Line, place: usize, other: usize, key: Key) -> Or
     }
 }
 
-// Where the record's value stands among the first `count` places of the table: binary search.
-fn seek(file: &[u8], first: Line, place: usize, key: Key, table: &[u16], count: usize) -> Seat
+// Where the record's value stands among the first `count` places of the table, or else where it would stand: binary search.
+// The halving stands here: `binary_search_by` asks for a closure that is safe at any place, and `compare` is so only at places of whole records.
+fn seek(
+    file: &[u8],
+    first: Line,
+    place: usize,
+    key: Key,
+    table: &[u16],
+    count: usize,
+) -> Result<usize, usize>
     requires { Tabled first.number key (seen first file.now) table.now count × Stands first.number place file.now × InRecord key }
-    ensures at { result.at ≡ rank (value_at first.number key (seen first file.now) place) (kept first.number key (seen first file.now) table.now count) }
-    ensures taken { result.taken ≡ member (value_at first.number key (seen first file.now) place) (kept first.number key (seen first file.now) table.now count) }
+    ensures at { MatchResult result (λ at. at ≡ rank (value_at first.number key (seen first file.now) place) (kept first.number key (seen first file.now) table.now count)) (λ at. at ≡ rank (value_at first.number key (seen first file.now) place) (kept first.number key (seen first file.now) table.now count)) }
+    ensures taken { is_ok result ≡ member (value_at first.number key (seen first file.now) place) (kept first.number key (seen first file.now) table.now count) }
 {
     let mut low: usize = 0;
     let mut high = count;
@@ -65,24 +67,18 @@ fn seek(file: &[u8], first: Line, place: usize, key: Key, table: &[u16], count: 
         let middle = low + (high - low) / 2;
         let other = table[middle] as usize;
         match compare(file, first, other, place, key) {
-            Order::Before => {
+            Ordering::Less => {
                 low = middle + 1;
             }
-            Order::After => {
+            Ordering::Greater => {
                 high = middle;
             }
-            Order::Same => {
-                return Seat {
-                    at: middle,
-                    taken: true,
-                };
+            Ordering::Equal => {
+                return Ok(middle);
             }
         }
     }
-    Seat {
-        at: low,
-        taken: false,
-    }
+    Err(low)
 }
 
 // Puts the place into the table at the seat; the places from there on move up.
@@ -90,11 +86,7 @@ fn insert(table: &mut [u16], count: usize, seat: usize, place: usize)
     requires { (count < length table.old) × (length table.old ≤ 65536) × (seat ≤ count) × (place < 65536) }
     ensures { table.new ≡ inserted_at table.old count seat place }
 {
-    let mut i = count;
-    while seat < i {
-        table[i] = table[i - 1];
-        i -= 1;
-    }
+    table.copy_within(seat..count, seat + 1);
     table[seat] = place as u16;
 }
 
@@ -111,16 +103,14 @@ pub fn enter(
     ensures answer { result ≡ entry_of first.number key (seen first file.now) table.old count place }
     ensures after { table.new ≡ table_after first.number key (seen first file.now) table.old count place }
 {
-    let seat = seek(file, first, place, key, table, count);
-    if seat.taken {
+    let Err(seat) = seek(file, first, place, key, table, count) else {
         return Entry { known: true, count };
-    }
+    };
     if count < table.len() {
-        insert(table, count, seat.at, place);
-        let grown = count + 1;
+        insert(table, count, seat, place);
         return Entry {
             known: false,
-            count: grown,
+            count: count + 1,
         };
     }
     Entry {

@@ -8,13 +8,15 @@ use native.Mathlib.Omega.{arith}
 use lib.Dec.{eqb, ltb}
 use borrow.Author.Tests.{eqb-true, eqb-false, ltb-true, ltb-false}
 use lib.ListN.{length}
+use Rattle.std.specs.Prelude.{Option, Some, None, Err}
 use Rattle.record.specs.Choice.{◌or◌, choose}
 use Rattle.nesting.specs.Records.{Cuttable}
-use Rattle.verdict.specs.Answer.{Reason, number_of, stated, refusal, Applies, Names, NoneOf, Refused, Judgement}
-use Rattle.verdict.specs.Answer.Reason.{Empty, Ragged, TooLong}
+use Rattle.verdict.specs.declared.reason.Reason.{Reason}
+use Rattle.verdict.specs.Answer.{number_of, stated, refusal, Applies, Names, NoneOf, Refused, Judgement}
+use Rattle.verdict.specs.declared.reason.Reason.TheVariants.{Empty, Ragged, TooLong}
 use Rattle.verdict.specs.Answer.Judgement.{refused}
-use Rattle.verdict.specs.Order.{refusal_by, length_reason, from_book, Clear}
-use Rattle.verdict.proofs.Numbers.{among, some_number, all_stated, one_reason}
+use Rattle.verdict.specs.Order.{length_reason, from_book, Clear}
+use Rattle.verdict.proofs.Numbers.{among, all_stated, one_reason}
 
 module _ (file book today : List ℕ) (room : ℕ) where
   -- none is tested yet
@@ -51,43 +53,42 @@ module _ (file book today : List ℕ) (room : ℕ) where
   pub given : (k : Reason) (m : ℕ) {left : List Reason} → Clear file book today room (k ∷ left) → Applies file book today room k → Names file book today room k m → Refused file book today room k m
   given k m {left} c a n = record { applies = a; earlier = c.earlier; later = left; order = c.order; first = c.none; names = n }
 
-  -- what tests up to those left come to: 0 where none applies, or the number of the first that does, which names m
-  pub data Tested (left : List Reason) (m : ℕ) : ℕ → Type 0 where
-    passed : Clear file book today room left → Tested left m 0
-    found : (k : Reason) → Refused file book today room k m → Tested left m (number_of k)
+  -- what tests up to those left come to: the first reason that applies, which names m, or none
+  pub data Tested (left : List Reason) (m : ℕ) : Option Reason → Type 0 where
+    passed : Clear file book today room left → Tested left m None
+    found : (k : Reason) → Refused file book today room k m → Tested left m (Some k)
 
   -- a test that holds where its reason applies, and one that holds where it does not
-  pub where_holds : {left : List Reason} {m : ℕ} (k : Reason) {next : List Reason} (b : Bool) (r : ℕ) → Clear file book today room (k ∷ next) → Names file book today room k m
+  pub where_holds : {left : List Reason} {m : ℕ} (k : Reason) {next : List Reason} (b : Bool) (r : Option Reason) → Clear file book today room (k ∷ next) → Names file book today room k m
       → (b ≡ true → Applies file book today room k) → (b ≡ false → Applies file book today room k → ⊥)
-      → (Clear file book today room next → Tested left m r) → Tested left m (choose b (number_of k) r)
+      → (Clear file book today room next → Tested left m r) → Tested left m (choose b (Some k) r)
   unfolding choose
   where_holds {m} k true r c s y o rest = found k (given k m c (y refl) s)
   where_holds k false r c s y o rest = rest (clear_next k c (o refl))
 
-  pub where_fails : {left : List Reason} {m : ℕ} (k : Reason) {next : List Reason} (b : Bool) (r : ℕ) → Clear file book today room (k ∷ next) → Names file book today room k m
+  pub where_fails : {left : List Reason} {m : ℕ} (k : Reason) {next : List Reason} (b : Bool) (r : Option Reason) → Clear file book today room (k ∷ next) → Names file book today room k m
       → (b ≡ false → Applies file book today room k) → (b ≡ true → Applies file book today room k → ⊥)
-      → (b ≡ true → Clear file book today room next → Tested left m r) → Tested left m (choose b r (number_of k))
+      → (b ≡ true → Clear file book today room next → Tested left m r) → Tested left m (choose b r (Some k))
   unfolding choose
   where_fails {m} k false r c s y o rest = found k (given k m c (y refl) s)
   where_fails k true r c s y o rest = rest refl (clear_next k c (o refl))
 
-  -- what was tested is known by the number that it came to
-  pub clear_by : {left : List Reason} {m r : ℕ} → Tested left m r → r ≡ 0 → Clear file book today room left
+  -- what was tested is known by what it came to
+  pub clear_by : {left : List Reason} {m : ℕ} {r : Option Reason} → Tested left m r → r ≡ None → Clear file book today room left
   clear_by (passed c) e = c
-  clear_by (found k p) e = absurd (omega (arith, e, some_number k))
+  clear_by (found k p) e = absurd (cc)
 
-  pub refused_by : {left : List Reason} {m r : ℕ} → Tested left m r → (r ≡ 0 → ⊥) → Judgement file book today room (refusal_by r m)
-  unfolding refusal_by refusal
-  refused_by (passed c) e = absurd (e refl)
-  refused_by {m} (found k p) e = refused k m p
+  pub refused_by : {left : List Reason} {m : ℕ} {r : Option Reason} → Tested left m r → (k : Reason) → r ≡ Some k → Judgement file book today room (Err (refusal k m))
+  refused_by (passed c) k e = absurd (cc)
+  refused_by {m} (found j p) k e = let q : j ≡ k = cc in rw (← q) (refused j m p)
 
   -- by the file's length
   pub lengths : Tested from_book 0 (length_reason (length file))
-  unfolding length_reason number_of stated
+  unfolding length_reason stated
   lengths =
       where_holds Empty (eqb (length file) 0) _ clear_start refl (eqb-true _ _) (eqb-false _ _) (λ c.
       where_fails Ragged (eqb (length file % 850) 0) _ c refl (eqb-false _ _) (λ t n. n (eqb-true _ _ t)) (λ t c.
-      where_holds TooLong (ltb 55704750 (length file)) 0 c refl (ltb-true _ _) (λ f a. omega (arith, a, ltb-false 55704750 (length file) f)) passed))
+      where_holds TooLong (ltb 55704750 (length file)) None c refl (ltb-true _ _) (λ f a. omega (arith, a, ltb-false 55704750 (length file) f)) passed))
 
   -- what that leaves
   pub cuttable : Clear file book today room from_book → Cuttable file

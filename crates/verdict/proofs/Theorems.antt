@@ -4,34 +4,30 @@ use mathlib.Core.Path.{◌≡◌, sym, ◌∙◌, ap, subst}
 use mathlib.Core.List.{List, [], ◌∷◌, ◌++◌}
 use Prim.Native.Nat.{ℕ}
 use Rattle.book.proofs.Chains.{lists_one}
-use Rattle.nesting.specs.declared.Verdict.{Verdict as Nesting-Verdict}
-use Rattle.nesting.specs.declared.Verdict.TheVariants as nested
+use Rattle.std.specs.Prelude.{Result, Err}
+use Rattle.nesting.specs.declared.Counts.{Counts}
 use Rattle.nesting.specs.Records.{records}
 use Rattle.nesting.specs.Promise.{Nested}
 use Rattle.nesting.proofs.OneDivision.{one_division}
 use Rattle.nesting.proofs.Theorems.{one_answer}
-use Rattle.verdict.specs.declared.Verdict.{Verdict}
-use Rattle.verdict.specs.Answer.{Reason, refusal, Applies, Names, NoneOf, Refused, Judgement}
-use Rattle.verdict.specs.Answer.Reason.{Empty, Ragged, TooLong, BookUnsound, NoDay, Nesting, ReportShort, LowByte, InputSystem, Version, TrailerDigits, RecordCount, PaymentCount, TotalAmount}
+use Rattle.verdict.specs.declared.Accepted.{Accepted}
+use Rattle.verdict.specs.declared.Refusal.{Refusal}
+use Rattle.verdict.specs.declared.reason.Reason.{Reason}
+use Rattle.verdict.specs.Answer.{refusal, Applies, Names, NoneOf, Refused, Judgement}
+use Rattle.verdict.specs.declared.reason.Reason.TheVariants.{Empty, Ragged, TooLong, BookUnsound, NoDay, Nesting, ReportShort, LowByte, InputSystem, Version, TrailerDigits, RecordCount, PaymentCount, TotalAmount}
 use Rattle.verdict.specs.Answer.Judgement.{refused, accepted}
-
--- the record that a refusal of nesting names
-record_in : Nesting-Verdict → ℕ
-record_in (nested.Legal b p) = 0
-record_in (nested.Refused k) = k
 
 module _ (file book today : List ℕ) (room : ℕ) where
   -- a reason names one record
   one_record : (k : Reason) (m n : ℕ) → Names file book today room k m → Names file book today room k n → m ≡ n
-  unfolding record_in
   one_record Empty m n p q = p ∙ sym q
   one_record Ragged m n p q = p ∙ sym q
   one_record TooLong m n p q = p ∙ sym q
   one_record BookUnsound m n p q = p ∙ sym q
   one_record NoDay m n p q = p ∙ sym q
-  one_record Nesting m n p q = ap record_in (one_answer (records file) (nested.Refused m) (nested.Refused n) (Nested.refused m p) (Nested.refused n q))
+  one_record Nesting m n p q = (let e : ◌≡◌ {A = Result Counts ℕ} (Err m) (Err n) = one_answer (records file) (Err m) (Err n) (Nested.refused m p) (Nested.refused n q) in cc)
   one_record ReportShort m n p q = p ∙ sym q
-  one_record LowByte m n p q = p ∙ sym q
+  one_record LowByte m n p q = cc
   one_record InputSystem m n p q = p ∙ sym q
   one_record Version m n p q = p ∙ sym q
   one_record TrailerDigits m n p q = p ∙ sym q
@@ -53,8 +49,8 @@ module _ (file book today : List ℕ) (room : ℕ) where
       let s : m ≡ n = one_record j m n (subst (λ (i : Reason). Names file book today room i m) e p.names) q.names in
       rw (e, s)
 
-  pub one_judgement : (v w : Verdict) → Judgement file book today room v → Judgement file book today room w → v ≡ w
-  one_judgement v w (refused k m p) (refused j n q) = one_refusal k j m n p q
+  pub one_judgement : (v w : Result Accepted Refusal) → Judgement file book today room v → Judgement file book today room w → v ≡ w
+  one_judgement v w (refused k m p) (refused j n q) = ap Err (one_refusal k j m n p q)
   one_judgement v w (refused k m p) (accepted n c l d h) = absurd (n k p.applies)
   one_judgement v w (accepted n c l d h) (refused k m p) = absurd (n k p.applies)
   one_judgement v w (accepted n c l d h) (accepted o b i e g) = rw (lists_one book c b l i, one_division (records file) d e h g)

@@ -1,5 +1,5 @@
 -- The file answers of document 01: when each applies, the record that it names, and the first that applies.
-use Rattle.std.specs.Prelude.{ℕ, ◌+◌, ◌*◌, ◌%◌, ◌<◌, ◌≡◌, Bool, true, false, List, [], ◌∷◌, ◌++◌, length}
+use Rattle.std.specs.Prelude.{ℕ, ◌*◌, ◌%◌, ◌<◌, ◌≡◌, Bool, true, false, List, [], ◌∷◌, ◌++◌, length, Some, None, is_none, Result, Ok, Err}
 use Rattle.record.specs.Choice.{◌and◌, ◌or◌}
 use Rattle.record.specs.Fields.{input_system, version_identifier, total_count_records, total_count, total_amount}
 use Rattle.record.specs.Value.{held}
@@ -7,33 +7,19 @@ use Rattle.record.specs.Tests.{blank, digits, alike}
 use Rattle.record.specs.Numeral.{numeral}
 use Rattle.money.specs.Money.{split}
 use Rattle.calendar.specs.Clock.{lendable}
-use Rattle.book.specs.Book.{Contents, Lists, entry_for, is_none, placed, shut}
+use Rattle.book.specs.Book.{Contents, Lists, entry_for, placed}
 use Rattle.nesting.specs.Division.{All, Division, DivisionOf, Divided, lines, payment_count}
 use Rattle.nesting.specs.Paid.{paid_by_all}
 use Rattle.nesting.specs.Records.{records}
-use Rattle.nesting.specs.Promise.{RefusedAt}
+use Rattle.nesting.specs.Promise.{counts, RefusedAt}
 use Rattle.characters.specs.Characters.{first_unclean}
 use Rattle.report.specs.Rows.{room_for}
-use Rattle.verdict.specs.declared.Verdict.{Verdict}
+use Rattle.verdict.specs.declared.reason.Reason.{Reason}
+use Rattle.verdict.specs.declared.reason.Reason.TheVariants.{Empty, Ragged, TooLong, BookUnsound, NoDay, Nesting, ReportShort, LowByte, InputSystem, Version, TrailerDigits, RecordCount, PaymentCount, TotalAmount}
+use Rattle.verdict.specs.declared.Accepted.{Accepted}
+use Rattle.verdict.specs.declared.Refusal.{Refusal}
 
--- the reasons of a refusal
-pub data Reason : Type 0 where
-  Empty : Reason
-  Ragged : Reason
-  TooLong : Reason
-  BookUnsound : Reason
-  NoDay : Reason
-  Nesting : Reason
-  ReportShort : Reason
-  LowByte : Reason
-  InputSystem : Reason
-  Version : Reason
-  TrailerDigits : Reason
-  RecordCount : Reason
-  PaymentCount : Reason
-  TotalAmount : Reason
-
--- their numbers, for the answer (01 File answers; 02 W4: 14)
+-- the numbers of the reasons, for the answer (01 File answers; 02 W4: 14)
 unfoldable pub number_of : Reason → ℕ
 number_of Empty = 1
 number_of Ragged = 2
@@ -67,20 +53,13 @@ strange c v = blank v or is_none (entry_for 40 c.systems v)
 unfoldable pub numbered : Division → Bool
 numbered d = digits (held d.trailer total_count_records) and digits (held d.trailer total_count) and digits (held d.trailer total_amount)
 
--- a refusal: reason * 100,000 + record, and nothing else
-unfoldable pub refusal : Reason → ℕ → Verdict
-refusal k m = record { answer = number_of k * 100000 + m; shelves = shut; batches = 0; payments = 0; total = split 0 }
+-- a refusal by a reason, which names a record, or 0
+abbrev pub refusal : Reason → ℕ → Refusal
+refusal k m = record { reason = k; record_number = m }
 
--- an accepted file: 0, the places of the book's sections, and what the division comes to
-unfoldable pub acceptance : Contents → Division → Verdict
-acceptance c d =
-    record {
-      answer = 0;
-      shelves = placed c;
-      batches = length d.batches;
-      payments = payment_count d.batches;
-      total = split (paid_by_all d.batches);
-    }
+-- an accepted file: the places of the book's sections, and what the division comes to
+unfoldable pub acceptance : Contents → Division → Accepted
+acceptance c d = record { shelves = placed c; counts = counts d; total = split (paid_by_all d.batches) }
 
 module _ (file book today : List ℕ) (room : ℕ) where
   -- of the file's division, and of what the book lists
@@ -100,7 +79,7 @@ module _ (file book today : List ℕ) (room : ℕ) where
   Applies NoDay = lendable today ≡ false
   Applies Nesting = Divided (records file) → ⊥
   Applies ReportShort = Of (λ c d. room < room_for (length d.batches))
-  Applies LowByte = first_unclean 1 (records file) ≡ 0 → ⊥
+  Applies LowByte = first_unclean 1 (records file) ≡ None → ⊥
   Applies InputSystem = Of (λ c d. strange c (held d.header input_system) ≡ true)
   Applies Version = Of (λ c d. alike (held d.header version_identifier) version201 ≡ false)
   Applies TrailerDigits = Of (λ c d. numbered d ≡ false)
@@ -117,7 +96,7 @@ module _ (file book today : List ℕ) (room : ℕ) where
   Names NoDay m = m ≡ 0
   Names Nesting m = RefusedAt (records file) m
   Names ReportShort m = m ≡ 0
-  Names LowByte m = m ≡ first_unclean 1 (records file)
+  Names LowByte m = Some m ≡ first_unclean 1 (records file)
   Names InputSystem m = m ≡ 1
   Names Version m = m ≡ 1
   Names TrailerDigits m = m ≡ length (records file)
@@ -138,7 +117,7 @@ module _ (file book today : List ℕ) (room : ℕ) where
     pub first : NoneOf earlier
     pub names : Names k m
 
-  -- what a verdict says
-  pub data Judgement : Verdict → Type 0 where
-    refused : (k : Reason) (m : ℕ) → Refused k m → Judgement (refusal k m)
-    accepted : ((j : Reason) → Applies j → ⊥) → (c : Contents) → Lists book c → (d : Division) → DivisionOf (records file) d → Judgement (acceptance c d)
+  -- what an answer says
+  pub data Judgement : Result Accepted Refusal → Type 0 where
+    refused : (k : Reason) (m : ℕ) → Refused k m → Judgement (Err (refusal k m))
+    accepted : ((j : Reason) → Applies j → ⊥) → (c : Contents) → Lists book c → (d : Division) → DivisionOf (records file) d → Judgement (Ok (acceptance c d))

@@ -1,47 +1,45 @@
 -- The order in which the code tests. No promise to other crates rests on it: the proofs tie it to Answer.antt.
-use Rattle.std.specs.Prelude.{ℕ, ◌+◌, ◌*◌, ◌%◌, ◌≡◌, Bool, true, List, [], ◌∷◌, ◌++◌, eqb, ltb}
+use Rattle.std.specs.Prelude.{ℕ, ◌%◌, ◌≡◌, Bool, true, List, [], ◌∷◌, ◌++◌, Option, Some, None, Result, eqb, ltb}
 use Rattle.record.specs.Choice.{◌and◌, choose}
 use Rattle.record.specs.Fields.{input_system, version_identifier, total_count_records, total_count, total_amount}
 use Rattle.record.specs.Value.{held}
 use Rattle.record.specs.Tests.{digits, alike}
 use Rattle.record.specs.Numeral.{numeral}
-use Rattle.money.specs.Money.{split, cents}
+use Rattle.money.specs.Money.{cents}
 use Rattle.calendar.specs.Clock.{lendable}
-use Rattle.book.specs.Book.{Contents, Lists, shut}
+use Rattle.book.specs.Book.{Contents, Lists}
 use Rattle.nesting.specs.Division.{Record, Division, DivisionOf}
 use Rattle.nesting.specs.Records.{Cuttable, records}
-use Rattle.verdict.specs.declared.Verdict.{Verdict}
-use Rattle.verdict.specs.Answer.{Reason, number_of, stated, strange, acceptance, NoneOf, Judgement, version201}
-use Rattle.verdict.specs.Answer.Reason.{Empty, Ragged, TooLong, BookUnsound, NoDay, Nesting, ReportShort, LowByte, InputSystem, Version, TrailerDigits, RecordCount, PaymentCount, TotalAmount}
+use Rattle.verdict.specs.declared.Accepted.{Accepted}
+use Rattle.verdict.specs.declared.Refusal.{Refusal}
+use Rattle.verdict.specs.declared.reason.Reason.{Reason}
+use Rattle.verdict.specs.Answer.{stated, strange, acceptance, NoneOf, Judgement, version201}
+use Rattle.verdict.specs.declared.reason.Reason.TheVariants.{Empty, Ragged, TooLong, BookUnsound, NoDay, Nesting, ReportShort, LowByte, InputSystem, Version, TrailerDigits, RecordCount, PaymentCount, TotalAmount}
 
--- the refusal by its number
-unfoldable pub refusal_by : ℕ → ℕ → Verdict
-refusal_by n m = record { answer = n * 100000 + m; shelves = shut; batches = 0; payments = 0; total = split 0 }
-
--- 1 to 3, by the file's length; 0 where none of them applies
-unfoldable pub length_reason : ℕ → ℕ
+-- 1 to 3, by the file's length
+unfoldable pub length_reason : ℕ → Option Reason
 length_reason n =
-    choose (eqb n 0) (number_of Empty) (choose (eqb (n % 850) 0) (choose (ltb 55704750 n) (number_of TooLong) 0) (number_of Ragged))
+    choose (eqb n 0) (Some Empty) (choose (eqb (n % 850) 0) (choose (ltb 55704750 n) (Some TooLong) None) (Some Ragged))
 
 -- 8 and 9, by FH
-unfoldable pub header_reason : Contents → Record → ℕ
+unfoldable pub header_reason : Contents → Record → Option Reason
 header_reason c r =
-    choose (strange c (held r input_system)) (number_of InputSystem) (choose (alike (held r version_identifier) version201) 0 (number_of Version))
+    choose (strange c (held r input_system)) (Some InputSystem) (choose (alike (held r version_identifier) version201) None (Some Version))
 
 -- every number in FT is digits
 unfoldable pub numbered_in : Record → Bool
 numbered_in r = digits (held r total_count_records) and digits (held r total_count) and digits (held r total_amount)
 
 -- 10 to 13, by FT, the record count, the payments and what they come to
-unfoldable pub trailer_reason : ℕ → ℕ → ℕ → Record → ℕ
+unfoldable pub trailer_reason : ℕ → ℕ → ℕ → Record → Option Reason
 trailer_reason count payments total r =
     choose (numbered_in r)
     (choose (eqb (numeral (held r total_count_records)) count)
     (choose (eqb (numeral (held r total_count)) payments)
-    (choose (eqb (cents (held r total_amount)) total) 0 (number_of TotalAmount))
-    (number_of PaymentCount))
-    (number_of RecordCount))
-    (number_of TrailerDigits)
+    (choose (eqb (cents (held r total_amount)) total) None (Some TotalAmount))
+    (Some PaymentCount))
+    (Some RecordCount))
+    (Some TrailerDigits)
 
 -- what is left to test: from FT on, from FH on, from the report's room on, from the book on
 abbrev pub from_trailer : List Reason
@@ -57,7 +55,7 @@ abbrev pub from_book : List Reason
 from_book = BookUnsound ∷ NoDay ∷ Nesting ∷ from_room
 
 -- what the tests before the report's room leave: whole records with a division, a book that lists something, and what to answer if nothing more applies
-pub record Known (file book : List ℕ) (v : Verdict) : Type 0 where
+pub record Known (file book : List ℕ) (v : Accepted) : Type 0 where
   pub cuttable : Cuttable file
   pub contents : Contents
   pub lists : Lists book contents
@@ -71,10 +69,10 @@ pub record Clear (file book today : List ℕ) (room : ℕ) (left : List Reason) 
   pub order : stated ≡ earlier ++ left
   pub none : NoneOf file book today room earlier
 
--- the verdict where FH and FT are left, whatever is lent for today, and whatever the room
-pub record Framed (file book : List ℕ) (v : Verdict) : Type 0 where
+-- the answer where FH and FT are left, whatever is lent for today, and whatever the room
+pub record Framed (file book : List ℕ) (v : Result Accepted Refusal) : Type 0 where
   pub judged : (today : List ℕ) (room : ℕ) → Clear file book today room from_header → Judgement file book today room v
 
--- the verdict where the report's room is left, whatever real day is lent, or nothing
-pub record Roomed (file book : List ℕ) (room : ℕ) (v : Verdict) : Type 0 where
+-- the answer where the report's room is left, whatever real day is lent, or nothing
+pub record Roomed (file book : List ℕ) (room : ℕ) (v : Result Accepted Refusal) : Type 0 where
   pub judged : (today : List ℕ) → lendable today ≡ true → Judgement file book today room v

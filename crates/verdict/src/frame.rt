@@ -7,7 +7,7 @@ ghost use Rattle.book.specs.Book.{Usable, listed_at};
 ghost use Rattle.verdict.specs.Answer.{strange};
 ghost use Rattle.verdict.specs.Order.{header_reason, numbered_in, trailer_reason};
 
-use crate::reason;
+use crate::reason::Reason;
 use book::Book;
 use book::search::find;
 use money::Amount;
@@ -18,21 +18,17 @@ fn is_strange(book: &[u8], shelves: Book, rec: &[u8], line: Line) -> bool
     requires { Usable book.now shelves × (850 ≤ length rec.now) }
     ensures { result ≡ strange (listed_at book.now shelves) (held (seen line rec.now) input_system) }
 {
-    if record::field_blank(rec, line, layout::INPUT_SYSTEM) {
-        return true;
-    }
-    let systems = shelves.systems;
-    let entry = find(book, systems, rec, line, layout::INPUT_SYSTEM);
-    entry.len() == 0
+    record::field_blank(rec, line, layout::INPUT_SYSTEM)
+        || find(book, shelves.systems, rec, line, layout::INPUT_SYSTEM).is_none()
 }
 
-// 8 or 9 by FH, or 0.
-pub(crate) fn header_reason(book: &[u8], shelves: Book, rec: &[u8], line: Line) -> u64
+// 8 or 9 by FH.
+pub(crate) fn header_reason(book: &[u8], shelves: Book, rec: &[u8], line: Line) -> Option<Reason>
     requires { Usable book.now shelves × (850 ≤ length rec.now) }
     ensures { result ≡ header_reason (listed_at book.now shelves) (seen line rec.now) }
 {
     if is_strange(book, shelves, rec, line) {
-        return reason::INPUT_SYSTEM;
+        return Some(Reason::InputSystem);
     }
     if record::field_is(
         rec,
@@ -41,9 +37,9 @@ pub(crate) fn header_reason(book: &[u8], shelves: Book, rec: &[u8], line: Line) 
         b"\xF2\xF0\xF1",
         b"201",
     ) {
-        return 0;
+        return None;
     }
-    reason::VERSION
+    Some(Reason::Version)
 }
 
 // Every number in FT is digits.
@@ -51,32 +47,33 @@ fn is_numbered(rec: &[u8], line: Line) -> bool
     requires { 850 ≤ length rec.now }
     ensures { result ≡ numbered_in (seen line rec.now) }
 {
-    if !record::field_digits(rec, line, layout::TOTAL_COUNT_RECORDS) {
-        return false;
-    }
-    if !record::field_digits(rec, line, layout::TOTAL_COUNT) {
-        return false;
-    }
-    record::field_digits(rec, line, layout::TOTAL_AMOUNT)
+    record::field_digits(rec, line, layout::TOTAL_COUNT_RECORDS)
+        && record::field_digits(rec, line, layout::TOTAL_COUNT)
+        && record::field_digits(rec, line, layout::TOTAL_AMOUNT)
 }
 
-// 10 to 13 by FT, whose own number is the record count, or 0.
-pub(crate) fn trailer_reason(rec: &[u8], line: Line, payments: usize, total: Amount) -> u64
+// 10 to 13 by FT, whose own number is the record count.
+pub(crate) fn trailer_reason(
+    rec: &[u8],
+    line: Line,
+    payments: usize,
+    total: Amount,
+) -> Option<Reason>
     requires { (850 ≤ length rec.now) × Whole total }
     ensures { result ≡ trailer_reason line.number payments (worth total) (seen line rec.now) }
 {
     if !is_numbered(rec, line) {
-        return reason::TRAILER_DIGITS;
+        return Some(Reason::TrailerDigits);
     }
     if record::field_number(rec, line, layout::TOTAL_COUNT_RECORDS) != line.number as u64 {
-        return reason::RECORD_COUNT;
+        return Some(Reason::RecordCount);
     }
     if record::field_number(rec, line, layout::TOTAL_COUNT) != payments as u64 {
-        return reason::PAYMENT_COUNT;
+        return Some(Reason::PaymentCount);
     }
     let amount = money::field_amount(rec, line, layout::TOTAL_AMOUNT);
     if money::is_equal(amount, total) {
-        return 0;
+        return None;
     }
-    reason::TOTAL_AMOUNT
+    Some(Reason::TotalAmount)
 }

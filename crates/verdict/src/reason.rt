@@ -1,28 +1,46 @@
-// The reasons of a refusal by their numbers (01 File answers; 02 W4: 14).
-pub(crate) const EMPTY: u64 = 1;
+// The reasons of a refusal (01 File answers; 02 W4: 14), in the order in which they are tested.
+ghost use Rattle.std.specs.Prelude.{◌≡◌, ◌≤◌};
+ghost use Rattle.verdict.specs.Answer.{number_of};
 
-pub(crate) const RAGGED: u64 = 2;
+#[derive(Clone, Copy, Debug, PartialEq, Eq)]
+pub enum Reason {
+    Empty,
+    Ragged,
+    TooLong,
+    BookUnsound,
+    NoDay,
+    Nesting,
+    ReportShort,
+    LowByte,
+    InputSystem,
+    Version,
+    TrailerDigits,
+    RecordCount,
+    PaymentCount,
+    TotalAmount,
+}
 
-pub(crate) const TOO_LONG: u64 = 3;
-
-pub(crate) const BOOK_UNSOUND: u64 = 4;
-
-pub(crate) const NESTING: u64 = 5;
-
-pub(crate) const REPORT_SHORT: u64 = 6;
-
-pub(crate) const LOW_BYTE: u64 = 7;
-
-pub(crate) const INPUT_SYSTEM: u64 = 8;
-
-pub(crate) const VERSION: u64 = 9;
-
-pub(crate) const TRAILER_DIGITS: u64 = 10;
-
-pub(crate) const RECORD_COUNT: u64 = 11;
-
-pub(crate) const PAYMENT_COUNT: u64 = 12;
-
-pub(crate) const TOTAL_AMOUNT: u64 = 13;
-
-pub(crate) const NO_DAY: u64 = 14;
+impl Reason {
+    // Its number in document 01.
+    #[tactic(auto, unfolding(crate::specs::Answer::number_of))]
+    pub(crate) fn number(self) -> u64
+        ensures { (result ≡ number_of self) × (result ≤ 14) }
+    {
+        match self {
+            Reason::Empty => 1,
+            Reason::Ragged => 2,
+            Reason::TooLong => 3,
+            Reason::BookUnsound => 4,
+            Reason::Nesting => 5,
+            Reason::ReportShort => 6,
+            Reason::LowByte => 7,
+            Reason::InputSystem => 8,
+            Reason::Version => 9,
+            Reason::TrailerDigits => 10,
+            Reason::RecordCount => 11,
+            Reason::PaymentCount => 12,
+            Reason::TotalAmount => 13,
+            Reason::NoDay => 14,
+        }
+    }
+}

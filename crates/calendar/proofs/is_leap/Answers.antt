@@ -1,12 +1,17 @@
-use borrow.Author.Rules.{rules}
-use Rattle.calendar.proofs.Days.{not_fourth, no_century, century}
+use native.Mathlib.Omega.{arith}
+use Rattle.std.proofs.lemmas.Bool.Decides.{nat_tests}
+use Rattle.record.specs.Choice.{◌and◌, ◌or◌}
+use Rattle.calendar.specs.Calendar.{leap}
 use Rattle.calendar.proofs.is_leap.Goals as goal
 
 pub returns-then-year-ne0 : goal.returns-then-year-ne0
-returns-then-year-ne0 c = search (rules, not_fourth)
+unfolding leap ◌and◌ ◌or◌
+returns-then-year-ne0 c = grind (arith, nat_tests)
 
-pub returns-then-year-ne0-2 : goal.returns-then-year-ne0-2
-returns-then-year-ne0-2 c = search (rules, no_century)
+pub returns-else-year-ne0 : goal.returns-else-year-ne0
+unfolding leap ◌and◌ ◌or◌
+returns-else-year-ne0 c = grind (arith, nat_tests)
 
-pub returns : goal.returns
-returns c = search (rules, century)
+pub returns-else-year-eq0 : goal.returns-else-year-eq0
+unfolding leap ◌and◌ ◌or◌
+returns-else-year-eq0 c = grind (arith, nat_tests)

@@ -1,20 +1,13 @@
-use Rattle.calendar.proofs.Days.{day_is}
+use native.Mathlib.Omega.{arith}
+use Rattle.std.proofs.lemmas.Bool.Decides.{nat_tests}
+use Rattle.record.specs.Choice.{◌and◌}
 use Rattle.calendar.specs.Calendar.{real_day}
-use Rattle.record.proofs.Chain.{chain}
 use Rattle.calendar.proofs.is_real_day.Goals as goal
 
-pub returns-then-year-lt1 : goal.returns-then-year-lt1
-unfolding real_day
-returns-then-year-lt1 c = search chain depth 20
+pub returns-then-day-ge1 : goal.returns-then-day-ge1
+unfolding real_day ◌and◌
+returns-then-day-ge1 c = grind (arith, nat_tests)
 
-pub returns-then-year-gt9999 : goal.returns-then-year-gt9999
-unfolding real_day
-returns-then-year-gt9999 c = search chain depth 20
-
-pub returns-then-day-lt1 : goal.returns-then-day-lt1
-unfolding real_day
-returns-then-day-lt1 c = search chain depth 20
-
-pub returns : goal.returns
-unfolding real_day
-returns c = search (chain, day_is) depth 20
+pub returns-else-day-ge1 : goal.returns-else-day-ge1
+unfolding real_day ◌and◌
+returns-else-day-ge1 c = grind (arith, nat_tests)

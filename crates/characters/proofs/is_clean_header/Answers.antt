@@ -3,10 +3,10 @@ use Rattle.characters.proofs.Stretches.{stretches_of, all_valid, covers, last}
 use borrow.Author.Rules.{rules}
 use Rattle.characters.proofs.is_clean_header.Goals as goal
 
-pub returns-then-not-written_valid : goal.returns-then-not-written_valid
+pub returns-then-written_valid : goal.returns-then-written_valid
 unfolding stretches_of all_valid
-returns-then-not-written_valid c = search (rules, covers, and_no, reads)
+returns-then-written_valid c = search (rules, covers, last, and_yes, reads)
 
-pub returns : goal.returns
+pub returns-else-written_valid : goal.returns-else-written_valid
 unfolding stretches_of all_valid
-returns c = search (rules, covers, last, and_yes, reads)
+returns-else-written_valid c = search (rules, covers, and_no, reads)

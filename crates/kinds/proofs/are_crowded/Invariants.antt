@@ -1,4 +1,4 @@
-use Prim.Native.Nat.{◌-◌, ◌/◌, ◌≤◌}
+use Prim.Native.Nat.{◌/◌, ◌≤◌}
 use mathlib.Core.Path.{◌≡◌}
 use lib.ListN.{length}
 use Rattle.record.specs.Value.{seen}
@@ -7,6 +7,3 @@ use Rattle.kinds.proofs.are_crowded.Given as goal
 
 abbrev pub invariant-loop-place : goal.invariant-loop-place
 invariant-loop-place l = (l.kinds ≤ 1000) × Counted l.first.number (seen l.first l.part) l.records l.place l.table l.kinds × (l.records ≡ length (seen l.first l.part) / 850)
-
-abbrev pub decreases-loop-place : goal.decreases-loop-place
-decreases-loop-place l = l.records - l.place

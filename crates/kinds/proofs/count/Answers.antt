@@ -7,4 +7,4 @@ pub returns-then-not-has_kind : goal.returns-then-not-has_kind
 returns-then-not-has_kind c = search (rules, count_other, table_other, reads)
 
 pub returns : goal.returns
-returns c = record { answer = search (rules, count_own, reads); after = search (rules, table_own, reads) }
+returns c = record { answer = count_own _ _ _ _ _ (search (rules, reads)) _ c.enter-entry.ensures.answer; after = search (rules, table_own, reads) }

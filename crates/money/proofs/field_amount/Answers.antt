@@ -1,5 +1,5 @@
 use Rattle.money.proofs.Amounts.{amount_low, amount_stands}
-use Rattle.record.proofs.Chain.{told, told_yes}
+use Rattle.record.proofs.Chain.{told}
 use borrow.Author.Rules.{rules}
 use Rattle.money.proofs.field_amount.Goals as goal
 
@@ -10,10 +10,10 @@ pub returns-then-written_digits : goal.returns-then-written_digits
 returns-then-written_digits c = search (rules, amount_low)
 
 pub written_number-high-requires : goal.written_number-high-requires
-written_number-high-requires c = search (rules, told_yes)
+written_number-high-requires c = search (rules, told)
 
-pub written_number-low-requires-2 : goal.written_number-low-requires-2
-written_number-low-requires-2 c = search (rules, told_yes)
+pub written_number-low-requires-then-written_digits-3 : goal.written_number-low-requires-then-written_digits-3
+written_number-low-requires-then-written_digits-3 c = search (rules, told)
 
-pub returns : goal.returns
-returns c = search (rules, amount_stands)
+pub returns-then-written_digits-3 : goal.returns-then-written_digits-3
+returns-then-written_digits-3 c = search (rules, amount_stands)

@@ -12,8 +12,8 @@ overflow_add-low c = omega (arith, low_room _ _ c.requires)
 pub returns-then-low-lt10000000000 : goal.returns-then-low-lt10000000000
 returns-then-low-lt10000000000 c = search (rules, plus_plain)
 
-pub overflow_add-carried : goal.overflow_add-carried
-overflow_add-carried c = omega (arith, high_room _ _ c.requires)
+pub overflow_add-result : goal.overflow_add-result
+overflow_add-result c = omega (arith, high_room _ _ c.requires)
 
 pub returns : goal.returns
 returns c = search (rules, plus_carry)

@@ -1,18 +1,13 @@
-use Rattle.page.proofs.Figures.{figures_none, figures_low, figures_high, figures_next, figures_end}
-use borrow.Author.Rules.{rules}
+use mathlib.Core.Path.{◌∙◌}
+use mathlib.Core.Bool.{◌&&◌}
+use lib.Dec.{leb}
+use Rattle.std.proofs.Common.{rules, tests}
+use Rattle.std.proofs.lemmas.Iterator.{YieldsList-from_slice}
+use Rattle.std.proofs.lemmas.Iterator.Search.{all_from_yields_List}
+use Rattle.page.proofs.Figures.{digits_all}
 use Rattle.page.proofs.are_digits.Goals as goal
 
-pub loop-i-init : goal.loop-i-init
-loop-i-init c = search (rules, figures_none)
-
-pub returns-then-byte-lt48 : goal.returns-then-byte-lt48
-returns-then-byte-lt48 c = search (rules, figures_low)
-
-pub returns-then-byte-gt57 : goal.returns-then-byte-gt57
-returns-then-byte-gt57 c = search (rules, figures_high)
-
-pub loop-i-preserved : goal.loop-i-preserved
-loop-i-preserved c = search (rules, figures_next)
-
 pub returns : goal.returns
-returns c = search (rules, figures_end)
+returns c =
+    all_from_yields_List (λ x. leb 0x30 x && leb x 0x39) _ _ _ c.all.ensures.ran (YieldsList-from_slice c.args.bytes.now (cc)) (λ x b q k. search (rules, tests))
+    ∙ digits_all c.args.bytes.now

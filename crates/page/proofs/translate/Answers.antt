@@ -1,11 +1,14 @@
+use Rattle.page.proofs.CodePage.{low_byte, high_byte, page_byte}
 use Rattle.page.specs.CodePage.{code_page}
-use Rattle.page.proofs.CodePage.{digit_lands}
 use borrow.Author.Rules.{rules}
 use Rattle.page.proofs.translate.Goals as goal
 
-pub returns-then-byte-le57 : goal.returns-then-byte-le57
-returns-then-byte-le57 c = search (rules, digit_lands)
-
-pub entry_of-requires : goal.entry_of-requires
+pub returns-in-32-to-126 : goal.returns-in-32-to-126
 unfolding code_page
-entry_of-requires c = search rules
+returns-in-32-to-126 c = search (rules, page_byte)
+
+pub returns-in_default : goal.returns-in_default
+returns-in_default c = search (rules, low_byte)
+
+pub returns-in_default-2 : goal.returns-in_default-2
+returns-in_default-2 c = search (rules, high_byte)

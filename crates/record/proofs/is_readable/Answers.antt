@@ -2,8 +2,8 @@ use Rattle.record.proofs.Held.{unreadable, readable_of}
 use borrow.Author.Rules.{rules}
 use Rattle.record.proofs.is_readable.Goals as goal
 
-pub returns-then-line : goal.returns-then-line
-returns-then-line c = search (rules, unreadable)
+pub returns-then-not-line : goal.returns-then-not-line
+returns-then-not-line c = search (rules, readable_of)
 
-pub returns : goal.returns
-returns c = search (rules, readable_of)
+pub returns-else-not-line : goal.returns-else-not-line
+returns-else-not-line c = search (rules, unreadable)

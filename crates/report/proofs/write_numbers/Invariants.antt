@@ -1,4 +1,4 @@
-use Prim.Native.Nat.{◌≤◌, ◌-◌, ◌*◌}
+use Prim.Native.Nat.{◌*◌}
 use mathlib.Core.Path.{◌≡◌}
 use lib.ListN.{length, drop}
 use Rattle.report.specs.Rows.{row_bytes}
@@ -6,7 +6,4 @@ use Rattle.numbers.proofs.Writing.{Written}
 use Rattle.report.proofs.write_numbers.Given as goal
 
 abbrev pub invariant-loop-k : goal.invariant-loop-k
-invariant-loop-k l = (l.k ≤ 8) × (length l.part ≡ 64) × Written l.part (l.k * 8) (row_bytes (drop l.k l.row)) (row_bytes l.row)
-
-abbrev pub decreases-loop-k : goal.decreases-loop-k
-decreases-loop-k l = 8 - l.k
+invariant-loop-k l = (length l.part ≡ 64) × Written l.part (l.k * 8) (row_bytes (drop l.k l.fn.row)) (row_bytes l.fn.row)

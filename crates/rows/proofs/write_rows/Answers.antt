@@ -29,10 +29,6 @@ write_next-place-requires-in-loop-written c =
     let n = c.number_next-number.ensures in
     (c.requires.0, opens l t, row_few l t, row_fits l t _ _ n.answer n.after)
 
-pub overflow_add-written : goal.overflow_add-written
-overflow_add-written c =
-    let h = row_few c.loop-written.invariant c.loop-written-test.true in search rules
-
 pub loop-written-preserved : goal.loop-written-preserved
 loop-written-preserved c =
     let n = c.number_next-number.ensures in

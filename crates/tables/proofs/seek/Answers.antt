@@ -12,16 +12,16 @@ overflow_cast-other c = Fits-under _ _ 65536 (c.shared_slice_known-in-loop-low-1
 pub compare-requires : goal.compare-requires
 compare-requires c = search (rules, next_sent)
 
-pub loop-low-preserved-in-Before : goal.loop-low-preserved-in-Before
-loop-low-preserved-in-Before c = search sought_raised
+pub loop-low-preserved-in-Less : goal.loop-low-preserved-in-Less
+loop-low-preserved-in-Less c = search sought_raised
 
 -- by hand: a search loses itself between the old bounds and the new
 pub loop-low-preserved : goal.loop-low-preserved
 loop-low-preserved c =
     sought_lowered _ _ _ _ _ _ c.requires.0 _ _ c.loop-low.invariant (search rules) _ c.compare.ensures (search rules)
 
-pub returns-in-Same : goal.returns-in-Same
-returns-in-Same c = search (seat_taken, value_known)
+pub returns-in-Equal : goal.returns-in-Equal
+returns-in-Equal c = search (seat_taken, value_known)
 
 pub returns : goal.returns
 returns c = search (seat_free, value_new)

@@ -1,39 +1,36 @@
-use mathlib.Core.Path.{ap}
-use mathlib.Core.Bool.{not}
-use Rattle.verdict.proofs.Laws.{length_small}
 use Rattle.verdict.proofs.Opening.{unfit, bookless, dayless, sent_cuttable, unnested, roomed, named_small, divided, first_unclean_holds}
-use Rattle.verdict.specs.Answer.{number_of}
-use borrow.Author.Tests.{not-true, not-false}
-use borrow.Author.Rules.{rules}
 use Rattle.verdict.proofs.file_answer.Goals as goal
 
-pub refuse-requires : goal.refuse-requires
-refuse-requires c = search (rules, length_small)
+pub returns-in-Some : goal.returns-in-Some
+returns-in-Some c = unfit _ _ _ _ _ _ c.length_reason.ensures _ c.in-Some.is _ c.refuse.ensures
 
-pub returns-then-unfit-ne0 : goal.returns-then-unfit-ne0
-returns-then-unfit-ne0 c = search (rules, unfit)
-
-pub returns-then-not-shelves : goal.returns-then-not-shelves
-unfolding number_of
-returns-then-not-shelves c = search (rules, bookless, not-true)
+pub returns-in_default-read_book : goal.returns-in_default-read_book
+returns-in_default-read_book c =
+    bookless _ _ _ _ _ _ c.length_reason.ensures c.in_default.is _ c.read_book.ensures c.in_default-read_book.is _
+    c.refuse-in_default-read_book.ensures
 
 pub returns-then-not-is_lendable : goal.returns-then-not-is_lendable
-unfolding number_of
-returns-then-not-is_lendable c = search (rules, dayless, not-true, not-false)
+returns-then-not-is_lendable c =
+    dayless _ _ _ _ _ _ c.length_reason.ensures c.in_default.is _ _ c.read_book.ensures c.in-Some-read_book.is _ c.is_lendable.ensures
+    c.if-not-is_lendable.true _ c.refuse-then-not-is_lendable.ensures
 
-pub survey_file-found-requires : goal.survey_file-found-requires
-survey_file-found-requires c = search (rules, sent_cuttable)
+pub survey_file-requires : goal.survey_file-requires
+survey_file-requires c = sent_cuttable c.args.ascii _ c.args.book.now c.args.today.now c.args.room _ c.length_reason.ensures c.in_default.is
 
-pub refuse-requires-in-Refused : goal.refuse-requires-in-Refused
-refuse-requires-in-Refused c = search (rules, named_small, not-false)
+pub refuse-requires-in-Err : goal.refuse-requires-in-Err
+refuse-requires-in-Err c =
+    named_small _ _ c.args.book.now c.args.today.now c.args.room _ c.length_reason.ensures c.in_default.is _ _ c.read_book.ensures c.in-Some-read_book.is _ c.survey_file.ensures _ c.in-Err.is
 
 pub judge_divided-requires : goal.judge_divided-requires
-judge_divided-requires c = search (rules, divided, first_unclean_holds, not-false)
+judge_divided-requires c = (
+  divided _ _ c.args.book.now c.args.today.now c.args.room _ c.length_reason.ensures c.in_default.is _ _ c.read_book.ensures c.in-Some-read_book.is _ c.survey_file.ensures _ c.in-Ok.is,
+  first_unclean_holds _ _ c.args.book.now c.args.today.now c.args.room _ c.length_reason.ensures c.in_default.is _ _ c.read_book.ensures c.in-Some-read_book.is _ c.survey_file.ensures _ c.in-Ok.is,
+)
 
-pub returns-in-Refused : goal.returns-in-Refused
-unfolding number_of
-returns-in-Refused c = search (rules, unnested, not-false)
+pub returns-in-Err : goal.returns-in-Err
+returns-in-Err c =
+    unnested _ _ _ _ _ _ c.length_reason.ensures c.in_default.is _ _ c.read_book.ensures c.in-Some-read_book.is _ c.is_lendable.ensures
+    c.if-not-is_lendable.false _ c.survey_file.ensures _ c.in-Err.is _ c.refuse-in-Err.ensures
 
-pub returns-in-Legal : goal.returns-in-Legal
-returns-in-Legal c =
-    roomed _ _ _ _ _ _ c.is_lendable.ensures (ap not c.if-not-is_lendable.false) c.judge_divided.ensures
+pub returns-in-Ok : goal.returns-in-Ok
+returns-in-Ok c = roomed _ _ _ _ _ _ c.is_lendable.ensures c.if-not-is_lendable.false c.judge_divided.ensures

@@ -1,4 +1,8 @@
-use mathlib.Core.Path.{refl}
+use mathlib.Core.Path.{refl, ap, ◌∙◌}
+use Rattle.std.specs.Prelude.{Bool}
+use Rattle.money.specs.Money.{worth}
+use Rattle.batch.specs.Batch.{betc_only}
+use Rattle.batch.specs.Walk.{with_account}
 use native.Mathlib.Omega.{arith}
 use Rattle.batch.proofs.Rooms.{room, own_room, accounts_room, small_read}
 use Rattle.batch.proofs.Laws.{account_taken}
@@ -22,5 +26,5 @@ overflow_add-accounts c =
 pub returns : goal.returns
 returns c =
     account_taken _ _ _ _ _ _ _ _ _ _ _ c.betc-betc.ensures
-    c.betc_only-codes.ensures c.with_codes-context.ensures
-    c.account_rules-finding.ensures c.field_amount-amount.ensures c.with_account-payment.ensures c.know.ensures
+    (c.betc_only-codes.ensures ∙ ap betc_only c.is_some.ensures) c.with_codes-context.ensures
+    c.account_rules-finding.ensures c.field_amount-amount.ensures (c.with_account-payment.ensures ∙ ap (λ (b : Bool). with_account c.args.state.payment b (worth c.field_amount-amount.result)) c.unwrap_or.ensures) c.know.ensures

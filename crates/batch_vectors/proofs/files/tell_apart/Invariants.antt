@@ -1,8 +1,5 @@
-use Prim.Native.Nat.{◌-◌}
+use Rattle.std.proofs.Common.{◌≡◌}
 use Rattle.batch_vectors.proofs.files.tell_apart.Given as goal
 
 abbrev pub invariant-loop-place : goal.invariant-loop-place
-invariant-loop-place l = Unit {0}
-
-abbrev pub decreases-loop-place : goal.decreases-loop-place
-decreases-loop-place l = l.to - l.place
+invariant-loop-place l = l.file.count ≡ l.initial.file.count

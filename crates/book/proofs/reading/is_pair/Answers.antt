@@ -1,22 +1,23 @@
-use Rattle.record.specs.declared.Order.TheVariants.{Before, Same, After}
-use Rattle.record.specs.Ordering.{is_before}
+use mathlib.Core.Path.{sym, ap, ◌∙◌}
+use lib.ListN.{length}
 use Rattle.book.specs.Book.{entry_code}
-use Rattle.book.proofs.Walks.{told_pair, parts_pair}
-use borrow.Author.Rules.{rules}
+use Rattle.book.proofs.Walks.{own_wide, other_wide, pair_told, parts_pair, less_before}
 use Rattle.book.proofs.reading.is_pair.Goals as goal
 
-pub returns-then-there-code : goal.returns-then-there-code
+pub is_after-requires : goal.is_after-requires
 unfolding entry_code
-returns-then-there-code c = search (rules, parts_pair)
+is_after-requires c =
+    let here = c.in-Some.ensures.1 in
+    let there = c.in-Some-field_part.ensures.1 in
+    ap length here ∙ own_wide c.args.book.now c.args.at c.args.entry c.args.code c.requires.0 c.requires.1
+    ∙ sym (ap length there ∙ other_wide c.args.book.now c.args.at c.args.entry c.args.code c.requires.0 c.requires.1)
 
-pub returns-in-Before : goal.returns-in-Before
-unfolding entry_code is_before
-returns-in-Before c = let a = c.args in told_pair a.book.now a.at a.entry a.code _ c.fields_order.ensures Before (search rules)
+pub returns-in-Some-field_part : goal.returns-in-Some-field_part
+unfolding entry_code
+returns-in-Some-field_part c =
+    parts_pair c.args.book.now c.args.at c.args.entry c.args.code _ _ _ c.in-Some.ensures.1 c.in-Some-field_part.ensures.1 c.is_after.ensures
 
-pub returns-in-Same : goal.returns-in-Same
-unfolding entry_code is_before
-returns-in-Same c = let a = c.args in told_pair a.book.now a.at a.entry a.code _ c.fields_order.ensures Same (search rules)
-
-pub returns-in-After : goal.returns-in-After
-unfolding entry_code is_before
-returns-in-After c = let a = c.args in told_pair a.book.now a.at a.entry a.code _ c.fields_order.ensures After (search rules)
+pub returns : goal.returns
+unfolding entry_code
+returns c =
+    pair_told c.args.book.now c.args.at c.args.entry c.args.code _ (c.eq.ensures ∙ rw c.fields_order.ensures (less_before _))

@@ -1,12 +1,12 @@
-use Rattle.record.proofs.Chain.{and_no, and_yes, told}
+use Rattle.record.proofs.Chain.{chain, reads}
 use Rattle.book.specs.Reading.{sound_in}
 use borrow.Author.Rules.{rules}
 use Rattle.book.proofs.reading.is_sound.Goals as goal
 
 pub returns-then-has_flags : goal.returns-then-has_flags
 unfolding sound_in
-returns-then-has_flags c = and_yes _ _ _ (search told) (search rules)
+returns-then-has_flags c = search (rules, chain, reads)
 
-pub returns : goal.returns
+pub returns-else-has_flags : goal.returns-else-has_flags
 unfolding sound_in
-returns c = and_no _ _ (search told)
+returns-else-has_flags c = search (rules, chain, reads)

@@ -1,22 +1,32 @@
 use native.Mathlib.Omega.{arith}
-use Rattle.book.proofs.Frames.{frame_of, in_frame, no_frame, no_section, a_section}
+use Rattle.book.proofs.Frames.{frame_of, in_frame, no_frame, no_section, a_section, past_inside}
 use borrow.Author.Rules.{rules}
 use Rattle.book.proofs.reading.section_at.Goals as goal
 
-pub size_at-size-requires : goal.size_at-size-requires
-size_at-size-requires c = omega (arith, (frame_of _ _ _ _ c.is_framed.ensures c.if-is_framed.true).head)
+pub returns-then-not-is_framed : goal.returns-then-not-is_framed
+returns-then-not-is_framed c = (no_frame _ _ _ _ c.is_framed.ensures c.if-not-is_framed.true, search rules)
 
-pub overflow_sub-count : goal.overflow_sub-count
-overflow_sub-count c = omega (arith, (frame_of _ _ _ _ c.is_framed.ensures c.if-is_framed.true).least, c.size_at-size.ensures.0)
+pub size_at-requires : goal.size_at-requires
+size_at-requires c = omega (arith, (frame_of _ _ _ _ c.is_framed.ensures c.if-not-is_framed.false).head)
+
+pub overflow_sub-section : goal.overflow_sub-section
+overflow_sub-section c = omega (arith, (frame_of _ _ _ _ c.is_framed.ensures c.if-not-is_framed.false).least, c.size_at.ensures.0)
 
 pub is_sound-requires : goal.is_sound-requires
-is_sound-requires c = record { within = in_frame _ _ _ _ c.is_framed.ensures c.if-is_framed.true _ c.size_at-size.ensures.0; whole = search rules; flag = search rules }
+is_sound-requires c =
+    record {
+      within = in_frame _ _ _ _ c.is_framed.ensures c.if-not-is_framed.false _ c.size_at.ensures.0;
+      whole = search rules;
+      flag = search rules;
+    }
 
-pub returns-then-is_sound : goal.returns-then-is_sound
-returns-then-is_sound c = search (rules, a_section)
-
-pub returns-then-is_framed : goal.returns-then-is_framed
-returns-then-is_framed c = search (rules, no_section)
+pub returns-then-not-is_sound : goal.returns-then-not-is_sound
+returns-then-not-is_sound c =
+    (no_section _ _ _ _ c.is_framed.ensures c.if-not-is_framed.false _ c.size_at.ensures.0 _ c.is_sound.ensures c.if-not-is_sound.true, search rules)
 
 pub returns : goal.returns
-returns c = search (rules, no_frame)
+returns c =
+    let t = c.if-not-is_framed.false in (
+      a_section _ _ _ _ c.is_framed.ensures t _ c.size_at.ensures.0 _ c.is_sound.ensures c.if-not-is_sound.false,
+      past_inside _ _ _ _ c.is_framed.ensures t _ c.size_at.ensures.0 c.requires.0,
+    )

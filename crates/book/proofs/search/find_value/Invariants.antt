@@ -3,7 +3,7 @@ use Rattle.book.proofs.Lookup.{Sought}
 use Rattle.book.proofs.search.find_value.Given as goal
 
 abbrev pub invariant-loop-low : goal.invariant-loop-low
-invariant-loop-low l = Sought l.book (record { start = l.start; count = l.initial.high; code = l.code.width; entry = l.entry }) l.value l.low l.high
+invariant-loop-low l = Sought l.book l.section l.value l.low l.high
 
 abbrev pub decreases-loop-low : goal.decreases-loop-low
 decreases-loop-low l = l.high - l.low

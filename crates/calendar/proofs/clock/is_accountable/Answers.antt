@@ -1,12 +1,13 @@
-use Rattle.calendar.proofs.Spans.{too_far, too_old, in_reach}
-use borrow.Author.Rules.{rules}
+use native.Mathlib.Omega.{arith}
+use Rattle.std.proofs.lemmas.Bool.Decides.{nat_tests}
+use Rattle.record.specs.Choice.{◌and◌}
+use Rattle.calendar.specs.Clock.{accountable}
 use Rattle.calendar.proofs.clock.is_accountable.Goals as goal
 
-pub returns-then-not-ahead_at_most : goal.returns-then-not-ahead_at_most
-returns-then-not-ahead_at_most c = search (rules, too_far)
+pub returns-then-back_at_most : goal.returns-then-back_at_most
+unfolding accountable ◌and◌
+returns-then-back_at_most c = grind (arith, nat_tests)
 
-pub returns-then-not-back_at_most : goal.returns-then-not-back_at_most
-returns-then-not-back_at_most c = search (rules, too_old)
-
-pub returns : goal.returns
-returns c = search (rules, in_reach)
+pub returns-else-back_at_most : goal.returns-else-back_at_most
+unfolding accountable ◌and◌
+returns-else-back_at_most c = grind (arith, nat_tests)

@@ -1,12 +1,13 @@
-use Rattle.calendar.proofs.Spans.{elsewhere, stale, issued_is}
-use borrow.Author.Rules.{rules}
+use native.Mathlib.Omega.{arith}
+use Rattle.std.proofs.lemmas.Bool.Decides.{nat_tests}
+use Rattle.record.specs.Choice.{◌and◌}
+use Rattle.calendar.specs.Clock.{issued}
 use Rattle.calendar.proofs.clock.is_issued.Goals as goal
 
-pub returns-then-not-lies_in : goal.returns-then-not-lies_in
-returns-then-not-lies_in c = search (rules, elsewhere)
+pub returns-then-back_at_most : goal.returns-then-back_at_most
+unfolding issued ◌and◌
+returns-then-back_at_most c = grind (arith, nat_tests)
 
-pub returns-then-not-back_at_most : goal.returns-then-not-back_at_most
-returns-then-not-back_at_most c = search (rules, stale)
-
-pub returns : goal.returns
-returns c = search (rules, issued_is)
+pub returns-else-back_at_most : goal.returns-else-back_at_most
+unfolding issued ◌and◌
+returns-else-back_at_most c = grind (arith, nat_tests)

@@ -1,12 +1,13 @@
-use borrow.Author.Rules.{rules}
-use Rattle.record.proofs.Chain.{chain, reads}
+use native.Mathlib.Omega.{arith}
+use Rattle.std.proofs.lemmas.Bool.Decides.{nat_tests}
+use Rattle.record.specs.Choice.{◌and◌}
 use Rattle.calendar.specs.Clock.{lies_in}
 use Rattle.calendar.proofs.clock.lies_in.Goals as goal
 
 pub returns-then-day-month : goal.returns-then-day-month
-unfolding lies_in
-returns-then-day-month c = search (rules, chain, reads)
+unfolding lies_in ◌and◌
+returns-then-day-month c = grind (arith, nat_tests)
 
-pub returns : goal.returns
-unfolding lies_in
-returns c = search (rules, chain, reads)
+pub returns-else-day-month : goal.returns-else-day-month
+unfolding lies_in ◌and◌
+returns-else-day-month c = grind (arith, nat_tests)

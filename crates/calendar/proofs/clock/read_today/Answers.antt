@@ -2,8 +2,8 @@ use Rattle.calendar.proofs.Spans.{unlent, lent_date, lent_eight, lent_today}
 use borrow.Author.Rules.{rules}
 use Rattle.calendar.proofs.clock.read_today.Goals as goal
 
-pub day_of-day-requires : goal.day_of-day-requires
-day_of-day-requires c =
+pub day_of-requires : goal.day_of-requires
+day_of-requires c =
     let e = lent_eight _ _ c.is_day.ensures c.if-is_day.true in
     search (rules, lent_date)
 

@@ -7,6 +7,6 @@ pub returns-then-is_at : goal.returns-then-is_at
 unfolding complete
 returns-then-is_at c = search (rules, chain, reads)
 
-pub returns : goal.returns
+pub returns-else-is_at : goal.returns-else-is_at
 unfolding complete
-returns c = search (rules, chain, reads)
+returns-else-is_at c = search (rules, chain, reads)

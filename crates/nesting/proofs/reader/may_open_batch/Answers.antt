@@ -11,6 +11,6 @@ pub returns-then-is_at-2 : goal.returns-then-is_at-2
 unfolding opens_batch
 returns-then-is_at-2 c = search (rules, chain, reads)
 
-pub returns : goal.returns
+pub returns-else-is_at-2 : goal.returns-else-is_at-2
 unfolding opens_batch
-returns c = search (rules, chain, reads)
+returns-else-is_at-2 c = search (rules, chain, reads)

@@ -3,10 +3,10 @@ use Rattle.record.proofs.Chain.{chain, reads}
 use borrow.Author.Rules.{rules}
 use Rattle.nesting.proofs.reader.may_take_procurement.Goals as goal
 
-pub returns-then-not-is_complete : goal.returns-then-not-is_complete
+pub returns-then-is_complete : goal.returns-then-is_complete
 unfolding takes_procurement
-returns-then-not-is_complete c = search (rules, chain, reads)
+returns-then-is_complete c = search (rules, chain, reads)
 
-pub returns : goal.returns
+pub returns-else-is_complete : goal.returns-else-is_complete
 unfolding takes_procurement
-returns c = search (rules, chain, reads)
+returns-else-is_complete c = search (rules, chain, reads)

@@ -5,8 +5,8 @@ use Rattle.record.proofs.moved.copy.Goals as goal
 pub returns-then-stands : goal.returns-then-stands
 returns-then-stands c = search (rules, copy_stays)
 
-pub returns-then-kept : goal.returns-then-kept
-returns-then-kept c = search (rules, copy_found, moved_copied_shown)
+pub returns-then-moved : goal.returns-then-moved
+returns-then-moved c = search (rules, copy_found, moved_copied_shown)
 
-pub returns-else-kept : goal.returns-else-kept
-returns-else-kept c = search (rules, copy_found, moved_copied)
+pub returns-else-moved : goal.returns-else-moved
+returns-else-moved c = search (rules, copy_found, moved_copied)

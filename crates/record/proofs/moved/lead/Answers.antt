@@ -1,6 +1,6 @@
-use borrow.Author.Rules.{rules}
 use Rattle.record.proofs.Corrected.{led_none}
 use Rattle.record.proofs.Moving.{lead_on, lead_here, lead_out}
+use borrow.Author.Rules.{rules}
 use Rattle.record.proofs.moved.lead.Goals as goal
 
 pub loop-i-init : goal.loop-i-init

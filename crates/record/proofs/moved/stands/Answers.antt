@@ -1,5 +1,5 @@
-use Rattle.record.proofs.Chain.{told, and_no, and_yes}
 use Rattle.record.specs.Moved.{in_place}
+use Rattle.record.proofs.Chain.{told, and_no, and_yes}
 use borrow.Author.Rules.{rules}
 use Rattle.record.proofs.moved.stands.Goals as goal
 
@@ -7,6 +7,6 @@ pub returns-then-begins : goal.returns-then-begins
 unfolding in_place
 returns-then-begins c = search (rules, told, and_yes)
 
-pub returns : goal.returns
+pub returns-else-begins : goal.returns-else-begins
 unfolding in_place
-returns c = search (rules, told, and_no)
+returns-else-begins c = search (rules, told, and_no)

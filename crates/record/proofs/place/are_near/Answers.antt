@@ -1,12 +1,12 @@
-use borrow.Author.Rules.{rules}
-use Rattle.record.proofs.Sent.{farthest_none, farthest_next, farthest_end, within_plain}
+use Prim.Native.Nat.{max}
+use lib.Bits.{bit_xor}
+use Rattle.std.proofs.Common.{rules, tests}
+use Rattle.std.proofs.lemmas.Iterator.{YieldsList-from_slice}
+use Rattle.std.proofs.lemmas.Iterator.Consumers.{fold_from_yields_List}
+use Rattle.record.proofs.Chains.{near_fold}
 use Rattle.record.proofs.place.are_near.Goals as goal
 
-pub loop-i-init : goal.loop-i-init
-loop-i-init c = search (rules, farthest_none)
-
-pub loop-i-preserved : goal.loop-i-preserved
-loop-i-preserved c = search (rules, farthest_next, within_plain)
-
 pub returns : goal.returns
-returns c = search (rules, farthest_end)
+returns c =
+    near_fold _ _ _
+    (fold_from_yields_List _ (λ a x. max a (bit_xor x c.args.zero)) _ _ c.fold.ensures.ran (YieldsList-from_slice c.args.bytes.now (cc)) (λ a x b q k. search (rules, tests)))

@@ -1,29 +1,48 @@
 use borrow.Author.Rules.{rules}
-use Rattle.record.proofs.Orders.{level_none, end_before, end_after, end_same}
+use mathlib.Core.Path.{◌∙◌, sym}
+use native.Mathlib.Omega.{arith}
+use lib.ListN.{length}
+use Rattle.std.proofs.SliceLists.{length_more}
+use Rattle.std.proofs.lemmas.Slice.Zip.{zip_turn, zip_end}
+use Rattle.record.specs.Place.{sent}
 use Rattle.record.proofs.Every.{value_length}
-use Rattle.record.proofs.Sent.{ascii_alike, ascii_next, ascii_before, ascii_after}
+use Rattle.record.proofs.Orders.{level_none, level_end}
+use Rattle.record.proofs.Sent.{ascii_alike, ascii_next, ascii_apart, sent_length}
 use Rattle.record.proofs.place.ascii_order.Goals as goal
 
-pub loop-i-init : goal.loop-i-init
-loop-i-init c = search (rules, level_none)
+pub loop-byte-init : goal.loop-byte-init
+loop-byte-init c = level_none _ _
 
-pub loop-i-preserved-then-sent-beside : goal.loop-i-preserved-then-sent-beside
-loop-i-preserved-then-sent-beside c = search (rules, ascii_alike)
+pub loop-byte-preserved-in-Equal : goal.loop-byte-preserved-in-Equal
+loop-byte-preserved-in-Equal c =
+    let a = c.args in
+    let p = c.requires in
+    let t = zip_turn (sent a.rec.now a.place) (sent a.other.now a.there) c.loop-byte.yielded c.into_iter-byte-iterator.result c.loop-byte.byte-iterator c.next.new.self c.next.result (cc) (cc) c.loop-byte.yielded_by _ c.in-Some.is c.next.ensures.steps in
+    ascii_next a.rec.now a.place a.other.now a.there p.0 p.1 p.2 p.3 _ c.loop-byte.invariant c.in-Some.byte.now c.in-Some.beside.now t
+    c.translate.result c.translate-then-byte-beside.result c.translate.ensures c.translate-then-byte-beside.ensures c.cmp.result c.cmp.ensures c.in-Equal.is _ (length_more _ _)
 
-pub returns-then-a-b-2 : goal.returns-then-a-b-2
-returns-then-a-b-2 c = search (rules, ascii_before)
+pub returns-in_default : goal.returns-in_default
+returns-in_default c =
+    let a = c.args in
+    let p = c.requires in
+    let t = zip_turn (sent a.rec.now a.place) (sent a.other.now a.there) c.loop-byte.yielded c.into_iter-byte-iterator.result c.loop-byte.byte-iterator c.next.new.self c.next.result (cc) (cc) c.loop-byte.yielded_by _ c.in-Some.is c.next.ensures.steps in
+    ascii_apart a.rec.now a.place a.other.now a.there p.0 p.1 p.2 p.3 _ c.loop-byte.invariant c.in-Some.byte.now c.in-Some.beside.now t
+    c.translate.result c.translate-then-byte-beside.result c.translate.ensures c.translate-then-byte-beside.ensures c.cmp.result c.cmp.ensures c.in_default.not-Equal
 
-pub returns-then-a-b : goal.returns-then-a-b
-returns-then-a-b c = search (rules, ascii_after)
-
-pub loop-i-preserved : goal.loop-i-preserved
-loop-i-preserved c = search (rules, ascii_next)
-
-pub returns-then-n-m : goal.returns-then-n-m
-returns-then-n-m c = search (rules, end_before, value_length)
-
-pub returns-then-m-n : goal.returns-then-m-n
-returns-then-m-n c = search (rules, end_after, value_length)
+pub loop-byte-preserved : goal.loop-byte-preserved
+loop-byte-preserved c =
+    let a = c.args in
+    let p = c.requires in
+    let t = zip_turn (sent a.rec.now a.place) (sent a.other.now a.there) c.loop-byte.yielded c.into_iter-byte-iterator.result c.loop-byte.byte-iterator c.next.new.self c.next.result (cc) (cc) c.loop-byte.yielded_by _ c.in-Some.is c.next.ensures.steps in
+    ascii_alike a.rec.now a.place a.other.now a.there p.0 p.1 p.2 p.3 _ c.loop-byte.invariant c.in-Some.byte.now c.in-Some.beside.now t (search rules) _ (length_more _ _)
 
 pub returns : goal.returns
-returns c = search (rules, end_same, value_length)
+returns c =
+    let a = c.args in
+    let p = c.requires in
+    let e = zip_end (sent a.rec.now a.place) (sent a.other.now a.there) c.loop-byte.yielded c.into_iter-byte-iterator.result c.loop-byte.byte-iterator c.next.new.self c.next.result (cc) (cc) c.loop-byte.yielded_by c.in-None.is c.next.ensures.steps in
+    level_end _ _ _ c.loop-byte.invariant (length c.sent-bytes.result.now) (length c.sent-others.result.now)
+    (value_length _ _ p.0 ∙ sym c.sent-bytes.ensures.1) (value_length _ _ p.1 ∙ sym c.sent-others.ensures.1)
+    (omega (arith, e, sent_length _ _ p.0, sent_length _ _ p.1, c.sent-bytes.ensures.1, c.sent-others.ensures.1))
+    (omega (arith, e, sent_length _ _ p.0, sent_length _ _ p.1, c.sent-bytes.ensures.1, c.sent-others.ensures.1))
+    _ c.cmp-2.ensures

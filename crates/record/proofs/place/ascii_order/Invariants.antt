@@ -1,10 +1,7 @@
-use Prim.Native.Nat.{◌≤◌, ◌-◌}
+use lib.ListN.{length}
 use Rattle.record.specs.Place.{value}
 use Rattle.record.proofs.Orders.{Level}
 use Rattle.record.proofs.place.ascii_order.Given as goal
 
-abbrev pub invariant-loop-i : goal.invariant-loop-i
-invariant-loop-i l = (l.i ≤ l.shared) × Level (value l.rec l.place) (value l.other l.there) l.i
-
-abbrev pub decreases-loop-i : goal.decreases-loop-i
-decreases-loop-i l = l.shared - l.i
+abbrev pub invariant-loop-byte : goal.invariant-loop-byte
+invariant-loop-byte l = Level (value l.rec l.fn.place) (value l.other l.fn.there) (length l.yielded)

@@ -5,5 +5,5 @@ use Rattle.record.proofs.place.sent_as.Goals as goal
 pub returns-then-place : goal.returns-then-place
 returns-then-place c = search (rules, choose_yes)
 
-pub returns : goal.returns
-returns c = search (rules, choose_no)
+pub returns-else-place : goal.returns-else-place
+returns-else-place c = search (rules, choose_no)

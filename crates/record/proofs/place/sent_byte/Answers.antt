@@ -5,13 +5,13 @@ use Rattle.record.proofs.Sent.{within_plain}
 use borrow.Author.Rules.{rules}
 use Rattle.record.proofs.place.sent_byte.Goals as goal
 
-pub overflow_add-at : goal.overflow_add-at
+pub overflow_add-result : goal.overflow_add-result
 unfolding Within
-overflow_add-at c = search rules
+overflow_add-result c = search rules
 
-pub bounds-rec-at : goal.bounds-rec-at
+pub bounds-rec-place : goal.bounds-rec-place
 unfolding Within
-bounds-rec-at c = search rules
+bounds-rec-place c = search rules
 
 pub returns : goal.returns
 returns c = value_plain _ _ _ (within_plain _ _ c.requires.0) c.requires.1 refl

@@ -1,4 +1,4 @@
-use Prim.Native.Nat.{◌-◌, ◌*◌, ◌/◌, ◌≤◌}
+use Prim.Native.Nat.{◌*◌, ◌/◌, ◌≤◌}
 use mathlib.Core.Path.{◌≡◌}
 use lib.ListN.{length}
 use Rattle.page.specs.CodePage.{shown}
@@ -8,6 +8,3 @@ use Rattle.repeats.proofs.flags.mark_block.Given as goal
 abbrev pub invariant-loop-place : goal.invariant-loop-place
 invariant-loop-place l =
     InMarking (length l.initial.table) (shown l.ascii l.file) l.start l.from l.place l.table l.count l.next l.kept l.flag l.flags × (l.records ≡ length (shown l.ascii l.file) / 850) × (length (shown l.ascii l.file) ≤ 65535 * 850)
-
-abbrev pub decreases-loop-place : goal.decreases-loop-place
-decreases-loop-place l = l.records - l.place

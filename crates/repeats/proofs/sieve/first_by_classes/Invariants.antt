@@ -1,5 +1,5 @@
 use Rattle.record.specs.Value.{seen}
-use Prim.Native.Nat.{◌≤◌, ◌<◌, ◌-◌, ◌/◌}
+use Prim.Native.Nat.{◌≤◌, ◌<◌, ◌/◌}
 use mathlib.Core.Path.{◌≡◌}
 use lib.ListN.{length}
 use Rattle.repeats.specs.Sieve.{most_walks}
@@ -8,6 +8,3 @@ use Rattle.repeats.proofs.sieve.first_by_classes.Given as goal
 
 abbrev pub invariant-loop-class : goal.invariant-loop-class
 invariant-loop-class l = (l.class ≤ l.classes) × (0 < l.classes) × (l.walks ≤ most_walks) × (l.count ≡ length (seen l.first l.part) / 850) × Best l.classes l.first.number (seen l.first l.part) l.count l.best l.class
-
-abbrev pub decreases-loop-class : goal.decreases-loop-class
-decreases-loop-class l = l.classes - l.class

@@ -1,9 +1,7 @@
+use Prim.Native.Nat.{◌-◌}
 use mathlib.Core.Path.{◌≡◌}
-use Rattle.repeats.specs.Sieve.{has_next, has_marks}
+use Rattle.repeats.specs.Sieve.{has_marks, has_next, mark_count}
 use Rattle.repeats.proofs.sieve.has_marks.Given as goal
 
-abbrev pub invariant-loop-left : goal.invariant-loop-left
-invariant-loop-left l = has_marks l.sieve l.hash ≡ has_next l.sieve l.left l.rest
-
-abbrev pub decreases-loop-left : goal.decreases-loop-left
-decreases-loop-left l = l.left
+abbrev pub invariant-loop : goal.invariant-loop
+invariant-loop l = has_marks l.sieve l.hash ≡ has_next l.sieve (mark_count - l.counter) l.rest

@@ -1,5 +1,5 @@
 use Rattle.record.specs.Value.{seen}
-use Prim.Native.Nat.{◌≤◌, ◌-◌}
+use Prim.Native.Nat.{◌≤◌}
 use mathlib.Core.Path.{◌≡◌}
 use lib.ListN.{length}
 use Rattle.nesting.specs.Records.{cut}
@@ -9,6 +9,3 @@ use Rattle.repeats.proofs.sieve.pass.Given as goal
 
 abbrev pub invariant-loop-place : goal.invariant-loop-place
 invariant-loop-place l = (l.place ≤ l.best) × (l.walks ≤ most_walks) × (length l.sieve ≡ 1024) × AllMarked l.classes l.class l.sieve (cut l.first.number l.place (seen l.first l.part)) × Clean l.classes l.class l.first.number (seen l.first l.part) l.place
-
-abbrev pub decreases-loop-place : goal.decreases-loop-place
-decreases-loop-place l = l.best - l.place

@@ -1,5 +1,5 @@
 use Rattle.record.specs.Value.{seen}
-use Prim.Native.Nat.{◌≤◌, ◌-◌}
+use Prim.Native.Nat.{◌≤◌}
 use mathlib.Core.Path.{◌≡◌}
 use mathlib.Core.Bool.{true}
 use Rattle.nesting.specs.Records.{record_at}
@@ -9,6 +9,3 @@ use Rattle.repeats.proofs.walk.is_repeated.Given as goal
 
 abbrev pub invariant-loop-earlier : goal.invariant-loop-earlier
 invariant-loop-earlier l = (l.earlier ≤ l.place) × (is_of l.sort (record_at l.first.number l.place (seen l.first l.file)) ≡ true) × Ahead l.sort l.first.number l.place (seen l.first l.file) l.earlier
-
-abbrev pub decreases-loop-earlier : goal.decreases-loop-earlier
-decreases-loop-earlier l = l.place - l.earlier

@@ -1,4 +1,4 @@
-use Rattle.tables.proofs.Comparing.{has_start, has_end, left_from, left_before, left_after, left_next, left_end}
+use Rattle.tables.proofs.Comparing.{has_start, has_end, left_from, left_found, left_next, left_end}
 use borrow.Author.Rules.{rules}
 use Rattle.tables.proofs.kind.kind_order.Goals as goal
 
@@ -8,11 +8,8 @@ loop-k-init c = search (rules, left_from)
 pub fields_order-requires : goal.fields_order-requires
 fields_order-requires c = search (rules, has_start, has_end)
 
-pub returns-in-Before : goal.returns-in-Before
-returns-in-Before c = search (rules, left_before)
-
-pub returns-in-After : goal.returns-in-After
-returns-in-After c = search (rules, left_after)
+pub returns-in_default : goal.returns-in_default
+returns-in_default c = search (rules, left_found)
 
 pub loop-k-preserved : goal.loop-k-preserved
 loop-k-preserved c = search (rules, left_next)

@@ -1,9 +1,5 @@
-use Prim.Native.Nat.{◌-◌, ◌≤◌}
 use Rattle.tables.proofs.Comparing.{Left}
 use Rattle.tables.proofs.kind.kind_order.Given as goal
 
 abbrev pub invariant-loop-k : goal.invariant-loop-k
-invariant-loop-k l = (l.k ≤ 9) × Left l.line.ascii l.other_line.ascii l.rec l.other l.k
-
-abbrev pub decreases-loop-k : goal.decreases-loop-k
-decreases-loop-k l = 9 - l.k
+invariant-loop-k l = Left l.line.ascii l.other_line.ascii l.rec l.other l.k

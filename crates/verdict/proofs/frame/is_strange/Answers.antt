@@ -9,7 +9,7 @@ pub returns-then-field_blank : goal.returns-then-field_blank
 unfolding strange
 returns-then-field_blank c = search (rules, chain, reads)
 
-pub returns : goal.returns
+pub returns-else-field_blank : goal.returns-else-field_blank
 unfolding strange listed_at
-returns c =
-    or_no _ _ _ (search (rules, reads)) (none_in _ _ _ _ _ c.requires.0.systems c.find-entry.ensures)
+returns-else-field_blank c =
+    or_no _ _ _ (search (rules, reads)) (none_in _ _ _ _ _ _ c.requires.0.systems c.find.ensures c.is_none.ensures)

@@ -1,4 +1,0 @@
-use Rattle.book.proofs.reading.begin.Goals as goal
-
-pub returns : goal.returns
-returns c = cc

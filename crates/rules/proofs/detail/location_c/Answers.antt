@@ -1,9 +1,0 @@
-use Rattle.record.specs.Choice.{choose, ◌and◌, ◌or◌}
-use Rattle.record.specs.Codes.{letter_byte}
-use Rattle.reasons.proofs.Firsts.{last}
-use Rattle.rules.specs.Rules.{rows, among, findings, reason, in_kind, detail}
-use Rattle.rules.proofs.detail.location_c.Goals as goal
-
-pub returns : goal.returns
-unfolding rows among findings reason in_kind detail letter_byte choose ◌and◌ ◌or◌
-returns c = last _ _ _ _ _ _ c.note.ensures c.in_book-reason_29.ensures
