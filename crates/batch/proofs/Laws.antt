@@ -1,5 +1,7 @@
 -- Each function of the walk does what its definition says: the parts of a result, put together.
 -- Assumes nothing.
+use Rattle.record.specs.declared.codes.Letter.TheVariants.{N, C, W, I, A}
+use Rattle.record.proofs.Chain.{chain, reads}
 use Rattle.reasons.specs.Findings.{Checked, found, noted}
 use Rattle.std.specs.Prelude.{Option, Some, None, is_some, unwrap_or, Ok, Err}
 use Rattle.std.specs.Option.{option_eq}
@@ -10,13 +12,12 @@ use Prim.Native.Nat.{ℕ, ◌+◌}
 use lib.Dec.{eqb}
 use borrow.Author.Tests.{eq-eqb, ne_eqb}
 use Rattle.record.specs.declared.codes.Letter.{Letter}
-use Rattle.record.specs.declared.codes.Letter.TheVariants.{N}
 use Rattle.record.specs.declared.codes.Code.{Code}
-use Rattle.record.specs.Choice.{◌and◌, choose}
+use Rattle.record.specs.Choice.{◌or◌, ◌and◌, choose}
 use Rattle.record.specs.Fields.{summary_total_amount, agency_location_code, check_symbol_number, check_accounting_month_and_year, amount, payment_type_code, state_code, country_code, original_currency_code, account_amount, procurement_amount}
 use Rattle.record.specs.Value.{held}
 use Rattle.record.specs.Tests.{blank}
-use Rattle.record.specs.Codes.{code_of, letter_in}
+use Rattle.record.specs.Codes.{letter_byte, code_of, letter_in}
 use Rattle.money.specs.declared.Amount.{Amount}
 use Rattle.money.specs.Money.{worth, split, cents}
 use Rattle.money.proofs.Amounts.{worth_split}
@@ -44,9 +45,18 @@ unfolding is_at
 at_is None n = refl
 at_is (Some k) n = refl
 
--- what is asked of a letter is what is asked of the letter that is known
-pub letter_is : (l m : Letter) (x : Bool) → l ≡ m → x ≡ among m check → x ≡ among l check
-letter_is l m x e h = rw e h
+-- the letter of check batches is asked for by its name
+pub check_is : (l : Letter) → l ≡ C → true ≡ among l check
+unfolding among letter_byte ◌or◌
+check_is l e = rw e
+
+pub check_not : (l : Letter) → (l ≡ C → ⊥) → false ≡ among l check
+unfolding among letter_byte ◌or◌
+check_not N h = refl
+check_not C h = absurd (h refl)
+check_not W h = refl
+check_not I h = refl
+check_not A h = refl
 
 -- two tests
 pub both : (a b x : Bool) → a ≡ true → b ≡ x → (a and b) ≡ x
@@ -192,3 +202,6 @@ module _ (book : Contents) (n : ℕ) (r : Record) where
     -- the step of the code that is known
     pub stepped : (c d : Code) (repeats : Bool) → c ≡ code_of r → c ≡ d → z ≡ step_of book d s n r repeats → z ≡ step_of book (code_of r) s n r repeats
     stepped c d repeats e k h = h ∙ ap (λ (x : Code). step_of book x s n r repeats) (sym k ∙ e)
+
+-- what the steps of the walk are worked out by
+pub ruleset walks = (chain, reads, stepped)

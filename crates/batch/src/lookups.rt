@@ -10,17 +10,23 @@ use record::layout::*;
 use record::{Field, Line};
 use rules::Codes;
 
+// The codes of a record that has none.
+const NONE: Codes = Codes {
+    locations: false,
+    betcs: false,
+    types: false,
+    states: false,
+    countries: false,
+    currencies: false,
+};
+
 // The codes of a record that has none but a location, listed or not.
 pub(crate) fn location_only(listed: bool) -> Codes
     ensures { result ≡ location_only listed }
 {
     Codes {
         locations: listed,
-        betcs: false,
-        types: false,
-        states: false,
-        countries: false,
-        currencies: false,
+        ..NONE
     }
 }
 
@@ -29,12 +35,8 @@ pub(crate) fn betc_only(listed: bool) -> Codes
     ensures { result ≡ betc_only listed }
 {
     Codes {
-        locations: false,
         betcs: listed,
-        types: false,
-        states: false,
-        countries: false,
-        currencies: false,
+        ..NONE
     }
 }
 

@@ -48,12 +48,13 @@ pub(crate) fn with_account(payment: Open, credit: bool, amount: Amount) -> Open
     requires { Own 65535 payment × Small 1 amount }
     ensures { result ≡ with_account payment credit (worth amount) }
 {
-    let before = payment.sum;
-    let sum = money::enter(before, credit, amount);
-    let mut after = payment;
-    after.accounts = payment.accounts + 1;
-    after.sum = sum;
-    after
+    let sum = money::enter(payment.sum, credit, amount);
+    let accounts = payment.accounts + 1;
+    Open {
+        accounts,
+        sum,
+        ..payment
+    }
 }
 
 // The payment with one DP more; whether the first is blank is kept.

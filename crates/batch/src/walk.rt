@@ -1,4 +1,6 @@
 // The walk over a batch: what is known before a record, and after it. A step sees one record, never those around it.
+#![tactic(auto, using(crate::proofs::Laws::walks), unfolding(crate::specs::Walk::context_of, crate::specs::Walk::knowing, crate::specs::Walk::payer_in, crate::specs::Walk::step_of, crate::specs::Batch::with_codes))]
+
 ghost use Rattle.std.specs.Prelude.{◌≡◌, false, ◌≤◌, eqb, length, Err};
 ghost use Rattle.record.specs.declared.codes.Letter.TheVariants.{N};
 ghost use Rattle.record.specs.Choice.{choose};
@@ -58,13 +60,7 @@ pub(crate) struct State {
 fn is_check(letter: Letter) -> bool
     ensures { result ≡ among letter check }
 {
-    match letter {
-        Letter::N => false,
-        Letter::C => true,
-        Letter::W => false,
-        Letter::I => false,
-        Letter::A => false,
-    }
+    matches!(letter, Letter::C)
 }
 
 // A header's first serial number (field 19).
@@ -92,7 +88,6 @@ fn read_header(
     requires { Usable book.now shelves × (length rec.now ≡ 850) }
     ensures { result ≡ head (listed_at book.now shelves) today crowded line.number (seen line rec.now) }
 {
-    let number = line.number;
     let code = code_of(code_bytes(rec, line));
     let letter = letter_in(code);
     let payer = lookups::location(book, shelves, rec, line, AGENCY_LOCATION_CODE);
@@ -101,7 +96,7 @@ fn read_header(
     let month = calendar::month_of(rec, line, CHECK_ACCOUNTING_MONTH_AND_YEAR);
     let amount = money::field_amount(rec, line, SUMMARY_TOTAL_AMOUNT);
     Header {
-        number,
+        number: line.number,
         letter,
         payer,
         symbol,
@@ -128,11 +123,8 @@ pub(crate) fn open_batch(
     ensures { result ≡ opening (listed_at book.now shelves) today repeats crowded line.number (seen line rec.now) }
 {
     let header = read_header(book, shelves, today, rec, line, crowded);
+    let codes = lookups::location_only(header.payer.is_some());
     let symbol = header.symbol;
-    let month = header.month;
-    let letter = header.letter;
-    let payer = header.payer;
-    let codes = lookups::location_only(payer.is_some());
     let payments: u64 = 0;
     let none = Amount { high: 0, low: 0 };
     let context = Context {
@@ -141,12 +133,12 @@ pub(crate) fn open_batch(
         codes,
         symbol,
         serial: header.serial,
-        month,
+        month: header.month,
         payments,
         total: none,
         today,
     };
-    let finding = header_rules(Ok(()), rec, line, letter, context);
+    let finding = header_rules(Ok(()), rec, line, header.letter, context);
     let payment = payment::begin(line.number, context, none);
     State {
         finding,
@@ -164,19 +156,16 @@ fn context_of(state: State, repeats: bool, reporter: bool, codes: Codes) -> Cont
 {
     let header = state.header;
     let symbol = header.symbol;
-    let month = header.month;
-    let total = state.total;
-    let today = header.today;
     Context {
         repeats,
         reporter,
         codes,
         symbol,
         serial: header.serial,
-        month,
+        month: header.month,
         payments: state.payments,
-        total,
-        today,
+        total: state.total,
+        today: header.today,
     }
 }
 
@@ -185,8 +174,7 @@ fn payer_of(book: &[u8], shelves: Book, rec: &[u8], line: Line, header: Header) 
     requires { Usable book.now shelves × (length rec.now ≡ 850) }
     ensures { result ≡ payer_in (listed_at book.now shelves) header (seen line rec.now) }
 {
-    let letter = header.letter;
-    if is_check(letter) {
+    if is_check(header.letter) {
         return lookups::location(book, shelves, rec, line, PAYMENT_LOCATION_CODE);
     }
     header.payer
@@ -204,8 +192,7 @@ fn paying_context(
     requires { Usable book.now shelves × (length rec.now ≡ 850) }
     ensures { result ≡ paying_context (listed_at book.now shelves) state repeats (seen line rec.now) }
 {
-    let header = state.header;
-    let payer = payer_of(book, shelves, rec, line, header);
+    let payer = payer_of(book, shelves, rec, line, state.header);
     let codes = lookups::detail_codes(book, shelves, rec, line, payer.is_some());
     context_of(state, repeats, payer.unwrap_or(false), codes)
 }
@@ -222,25 +209,19 @@ fn take_detail(
     requires { Usable book.now shelves × (length rec.now ≡ 850) × Room line.number state × (line.number ≤ 65535) }
     ensures { result ≡ detailed (listed_at book.now shelves) state line.number (seen line rec.now) repeats }
 {
-    let header = state.header;
-    let letter = header.letter;
-    let known = state.finding;
-    let closing = state.payment;
-    let before = state.total;
     let context = paying_context(book, shelves, rec, line, state, repeats);
-    let ended = payment::end(known, closing);
-    let finding = detail_rules(ended, rec, line, letter, context);
+    let ended = payment::end(state.finding, state.payment);
+    let finding = detail_rules(ended, rec, line, state.header.letter, context);
     let amount = money::field_amount(rec, line, AMOUNT);
     let payment = payment::begin(line.number, context, amount);
     let payments = state.payments + 1;
-    let total = money::plus(before, amount);
+    let total = money::plus(state.total, amount);
     State {
         finding,
-        header,
         payment,
         payments,
         total,
-        accounts: state.accounts,
+        ..state
     }
 }
 
@@ -248,15 +229,11 @@ fn take_detail(
 fn know(state: State, finding: Result<(), Finding>, payment: Open, accounts: usize) -> State
     ensures { result ≡ knowing state finding payment accounts }
 {
-    let header = state.header;
-    let total = state.total;
     State {
         finding,
-        header,
         payment,
-        payments: state.payments,
-        total,
         accounts,
+        ..state
     }
 }
 
@@ -264,12 +241,14 @@ fn take_party(rec: &[u8], line: Line, state: State) -> State
     requires { (length rec.now ≡ 850) × Room line.number state × (line.number ≤ 65535) }
     ensures { result ≡ partied state line.number (seen line rec.now) }
 {
-    let header = state.header;
-    let letter = header.letter;
-    let known = state.finding;
     let payment = state.payment;
-    let context = payment.context;
-    let finding = party_rules(known, rec, line, letter, context);
+    let finding = party_rules(
+        state.finding,
+        rec,
+        line,
+        state.header.letter,
+        payment.context,
+    );
     know(state, finding, payment, state.accounts)
 }
 
@@ -277,9 +256,7 @@ fn take_party(rec: &[u8], line: Line, state: State) -> State
 fn with_codes(context: Context, codes: Codes) -> Context
     ensures { result ≡ with_codes context codes }
 {
-    let mut after = context;
-    after.codes = codes;
-    after
+    Context { codes, ..context }
 }
 
 // A DT: its BETC is looked up once, for its rules and for the sum. The record's own word for a credit (field 88) is not read.
@@ -287,13 +264,11 @@ fn take_account(book: &[u8], shelves: Book, rec: &[u8], line: Line, state: State
     requires { Usable book.now shelves × (length rec.now ≡ 850) × Room line.number state × (line.number ≤ 65535) }
     ensures { result ≡ accounted (listed_at book.now shelves) state line.number (seen line rec.now) }
 {
-    let known = state.finding;
     let before = state.payment;
-    let paying = before.context;
     let betc = lookups::betc(book, shelves, rec, line);
     let codes = lookups::betc_only(betc.is_some());
-    let context = with_codes(paying, codes);
-    let finding = account_rules(known, rec, line, context);
+    let context = with_codes(before.context, codes);
+    let finding = account_rules(state.finding, rec, line, context);
     let amount = money::field_amount(rec, line, ACCOUNT_AMOUNT);
     let payment = payment::with_account(before, betc.unwrap_or(false), amount);
     let accounts = state.accounts + 1;
@@ -310,11 +285,10 @@ fn own_rules(
     requires { (length rec.now ≡ 850) × Kept payment.context }
     ensures { result ≡ after known (findings payment.context line.number (seen line rec.now) (rules_for N (choose (eqb payment.procurements 0) lone_procurement procurement))) }
 {
-    let context = payment.context;
     if payment.procurements == 0 {
-        return lone_procurement_rules(known, rec, line, context);
+        return lone_procurement_rules(known, rec, line, payment.context);
     }
-    procurement_rules(known, rec, line, context)
+    procurement_rules(known, rec, line, payment.context)
 }
 
 // What a DP finds. Where it is the second, a blank first one is at fault too: it was let pass as the only one.
@@ -345,9 +319,8 @@ fn take_procurement(rec: &[u8], line: Line, state: State) -> State
     requires { (length rec.now ≡ 850) × Room line.number state × (line.number ≤ 65535) }
     ensures { result ≡ procured state line.number (seen line rec.now) }
 {
-    let known = state.finding;
     let before = state.payment;
-    let finding = procurement_findings(known, rec, line, before);
+    let finding = procurement_findings(state.finding, rec, line, before);
     let blank = record::field_blank(rec, line, PROCUREMENT_AMOUNT);
     let amount = money::field_amount(rec, line, PROCUREMENT_AMOUNT);
     let payment = payment::with_procurement(before, blank, amount);
@@ -369,12 +342,10 @@ fn summary_reason(header: Header, total: Amount) -> Result<(), Reason>
     requires { Whole header.amount × Whole total }
     ensures { result ≡ choose (among header.letter check) sound (choose (eqb (worth header.amount) (worth total)) sound (Err Sum)) }
 {
-    let letter = header.letter;
-    let declared = header.amount;
-    if is_check(letter) {
+    if is_check(header.letter) {
         return Ok(());
     }
-    if money::is_equal(declared, total) {
+    if money::is_equal(header.amount, total) {
         return Ok(());
     }
     Err(Reason::Sum)
@@ -391,13 +362,11 @@ fn last_findings(
     ensures { result ≡ after known (last state line.number (seen line rec.now)) }
 {
     let header = state.header;
-    let total = state.total;
-    let opening = header.number;
-    let known = reasons::note(known, crowd_reason(header.crowded), opening, 76);
+    let known = reasons::note(known, crowd_reason(header.crowded), header.number, 76);
     let none = lookups::location_only(false);
     let context = context_of(state, false, false, none);
     let known = trailer_rules(known, rec, line, context);
-    reasons::note(known, summary_reason(header, total), opening, 9)
+    reasons::note(known, summary_reason(header, state.total), header.number, 9)
 }
 
 // The trailer: the last payment ends, and the batch.
@@ -405,11 +374,9 @@ fn take_trailer(rec: &[u8], line: Line, state: State) -> State
     requires { (length rec.now ≡ 850) × Room line.number state × (line.number ≤ 65535) }
     ensures { result ≡ trailed state line.number (seen line rec.now) }
 {
-    let known = state.finding;
-    let payment = state.payment;
-    let ended = payment::end(known, payment);
+    let ended = payment::end(state.finding, state.payment);
     let finding = last_findings(ended, rec, line, state);
-    know(state, finding, payment, state.accounts)
+    know(state, finding, state.payment, state.accounts)
 }
 
 // The state after a record of the batch; a detail's Payment ID is the first that repeats an earlier one, or not.

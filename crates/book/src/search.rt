@@ -9,6 +9,7 @@ use std::cmp::Ordering;
 
 // The entry whose code is the value. The library's `binary_search_by` works on a slice of entries, and the section is bytes whose entry is as wide as
 // its kind says, so the halving stands here.
+#[inline(always)]
 fn find_value<'a>(book: &'a [u8], section: Section, value: &[u8]) -> Option<&'a [u8]>
     requires { Shelved book.now section }
     ensures { option_copied result ≡ entry_for section.code (entries_at book.now section) value.now }

@@ -26,7 +26,7 @@ pub struct Month {
     pub month: u64,
 }
 
-// The difference of two days, with its sign. No signed integer holds each difference of two u64.
+// The difference of two days, with its sign: `difference`, `ahead_at_most` and `back_at_most` of specs/Clock.antt, and the theorems over them, are of it.
 #[derive(Clone, Copy)]
 pub enum Span {
     Ahead(u64),

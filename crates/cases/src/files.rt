@@ -208,3 +208,19 @@ impl<const MOST: usize> File<MOST> {
         self.write::<WIDTH>(self.count - 1, 28, payments);
     }
 }
+
+#[cfg(test)]
+mod tests {
+    use super::*;
+    use std::test::Fail;
+
+    #[test]
+    fn a_file_takes_records(rt: HostRuntime) -> Result<(), Fail> {
+        let mut file = File::<2>::new(rt.alloc())?;
+        assert_eq!(rt; file.made().len(), 0);
+        file.push(&[0xC6; 850]);
+        assert_eq!(rt; file.count, 1);
+        assert_eq!(rt; file.made().len(), 850);
+        Ok(())
+    }
+}

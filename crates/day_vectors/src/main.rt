@@ -16,14 +16,13 @@ fn show_day(rt: &impl Print, lent: &[u8]) -> io::Result<()> {
     }
 }
 
-fn show_days(rt: &impl Print) -> io::Result<()> {
+// Days one after the other, whether standard output takes each or not.
+fn show_days(rt: &impl Print) {
     for lent in (Parts::<8> { most: MOST }) {
-        show_day(rt, &lent)?;
+        let _ = show_day(rt, &lent);
     }
-    Ok(())
 }
 
-// Its exit status doesn't tell whether standard output took the lines.
 fn main(rt: HostRuntime) {
-    let _ = show_days(&rt);
+    show_days(&rt);
 }

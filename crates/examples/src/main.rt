@@ -105,12 +105,11 @@ fn show_line(rt: &impl Print, case: &mut Case, stock: Stock<'_>, row: &[u8]) -> 
     println!(rt;)
 }
 
-// Shows each row of the table.
-fn show_table(rt: &impl Print, case: &mut Case, stock: Stock<'_>, table: &[u8]) -> io::Result<()> {
+// Shows each row of the table, whether standard output takes the one before or not.
+fn show_table(rt: &impl Print, case: &mut Case, stock: Stock<'_>, table: &[u8]) {
     for row in table.split(|byte| *byte == b'\n') {
-        show_line(rt, case, stock, row)?;
+        let _ = show_line(rt, case, stock, row);
     }
-    Ok(())
 }
 
 // Reads the sound records, and behind them the ASCII.
@@ -129,7 +128,6 @@ fn stock_of<'a>(at_hand: &'a [u8; HAND], book: &'a [u8; BOOK], size: usize) -> S
     }
 }
 
-// Its exit status doesn't tell whether standard output took the rows.
 fn main(rt: HostRuntime) -> Result<(), AllocError> {
     let mut book = [0; BOOK];
     let mut at_hand = [0x40; HAND];
@@ -139,6 +137,6 @@ fn main(rt: HostRuntime) -> Result<(), AllocError> {
     let end = loading::read_input(&mut table);
     let stock = stock_of(&at_hand, &book, size);
     let mut case = Case::new(rt.alloc(), stock)?;
-    let _ = show_table(&rt, &mut case, stock, &table[..end]);
+    show_table(&rt, &mut case, stock, &table[..end]);
     Ok(())
 }

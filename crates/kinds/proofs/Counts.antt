@@ -16,7 +16,7 @@ use Rattle.nesting.proofs.Cuts.{record_from, from_place, onward, cut_onward, cut
 use Rattle.tables.specs.declared.Entry.{Entry}
 use Rattle.tables.specs.declared.Key.TheVariants.{Kind}
 use Rattle.tables.specs.Kind.{kind}
-use Rattle.tables.specs.Tables.{Stands, Tabled, member, entry_of, table_after}
+use Rattle.tables.specs.Tables.{Stands, Tabled, member, tells_known, entry_of, count_after, table_after}
 use Rattle.tables.proofs.Tables.{Holds, member_again, holds_none, known_is, count_known, holds_known, count_new, holds_new, after_length}
 use Rattle.kinds.specs.Kinds.{is_account, kinds, different, crowded}
 use Rattle.kinds.specs.Counting.{counted, table_counted}
@@ -45,9 +45,9 @@ module _ (first : ℕ) (bytes table : List ℕ) (count place : ℕ) where
     unfolding table_counted choose
     table_own after a = rw o a
 
-    pub count_own : (e : Entry) → e ≡ entry_of first Kind bytes table count place → e.count ≡ counted first bytes table count place
+    pub count_own : (n : ℕ) → n ≡ count_after first Kind bytes table count place → n ≡ counted first bytes table count place
     unfolding counted choose
-    count_own e q = rw o (ap (λ (x : Entry). x.count) q)
+    count_own n q = rw o q
 
 -- the table holds the kinds so far, and what is left of the records decides
 pub record Counted (first : ℕ) (bytes : List ℕ) (records place : ℕ) (table : List ℕ) (count : ℕ) : Type 0 where
@@ -90,32 +90,35 @@ module _ (first : ℕ) (bytes : List ℕ) (records : ℕ) where
       abbrev entry : Entry
       entry = entry_of first Kind bytes table count place
 
+      abbrev more : ℕ
+      more = count_after first Kind bytes table count place
+
       abbrev grown : List ℕ
       grown = table_after first Kind bytes table count place
 
       module _ (next : ℕ) (after : List ℕ) where
         -- a DT of a kind that was there, and of a new one
-        own : (b : Bool) → entry.known ≡ b → next ≡ entry.count → after ≡ grown → is_account (code_of here) ≡ true → Counted first bytes records (place + 1) after next
+        own : (b : Bool) → tells_known entry ≡ b → next ≡ more → after ≡ grown → is_account (code_of here) ≡ true → Counted first bytes records (place + 1) after next
         unfolding choose
         own true k n t o =
-            let m : member (kind here) c.earlier ≡ true = sym (known_is first Kind bytes table count c.earlier place c.holds s entry grown refl refl) ∙ k in
-            let x = holds_known first Kind bytes table count c.earlier place c.holds s entry grown refl refl k in
-            let z = count_known first Kind bytes table count c.earlier place c.holds s entry grown refl refl k in
+            let m : member (kind here) c.earlier ≡ true = sym (known_is first Kind bytes table count c.earlier place c.holds s entry more grown refl refl refl) ∙ k in
+            let x = holds_known first Kind bytes table count c.earlier place c.holds s entry more grown refl refl refl k in
+            let z = count_known first Kind bytes table count c.earlier place c.holds s entry more grown refl refl refl k in
             record {
               earlier = c.earlier ++ kind here ∷ [];
               holds = rw (n, t) (record { tabled = x.tabled; same = λ y. x.same y ∙ member_again (kind here) y c.earlier m });
               left = c.left ∙ rw (kinds_here, o, n, z) (ap (λ (i : ℕ). count + i) (different_known c.earlier (kind here) rest m));
-              size = rw (t, after_length first Kind bytes table count c.earlier place c.holds s entry grown refl refl) c.size;
+              size = rw (t, after_length first Kind bytes table count c.earlier place c.holds s entry more grown refl refl refl) c.size;
             }
         own false k n t o =
-            let m : member (kind here) c.earlier ≡ false = sym (known_is first Kind bytes table count c.earlier place c.holds s entry grown refl refl) ∙ k in
-            let x = holds_new first Kind bytes table count c.earlier place c.holds s entry grown refl refl k (counted_room h) in
-            let z = count_new first Kind bytes table count c.earlier place c.holds s entry grown refl refl k (counted_room h) in
+            let m : member (kind here) c.earlier ≡ false = sym (known_is first Kind bytes table count c.earlier place c.holds s entry more grown refl refl refl) ∙ k in
+            let x = holds_new first Kind bytes table count c.earlier place c.holds s entry more grown refl refl refl k (counted_room h) in
+            let z = count_new first Kind bytes table count c.earlier place c.holds s entry more grown refl refl refl k (counted_room h) in
             record {
               earlier = c.earlier ++ kind here ∷ [];
               holds = rw (n, t) x;
               left = c.left ∙ rw (kinds_here, o, n, z, different_new c.earlier (kind here) rest m) (omega arith);
-              size = rw (t, after_length first Kind bytes table count c.earlier place c.holds s entry grown refl refl) c.size;
+              size = rw (t, after_length first Kind bytes table count c.earlier place c.holds s entry more grown refl refl refl) c.size;
             }
 
         -- a record of another code
@@ -128,7 +131,7 @@ module _ (first : ℕ) (bytes : List ℕ) (records : ℕ) where
         counted_next q a = go (is_account (code_of here)) refl
           where
             go : (b : Bool) → is_account (code_of here) ≡ b → Counted first bytes records (place + 1) after next
-            go true o = own entry.known refl (q ∙ rw o) (a ∙ rw o) o
+            go true o = own (tells_known entry) refl (q ∙ rw o) (a ∙ rw o) o
             go false o = other (q ∙ rw o) (a ∙ rw o) o
 
     -- at the first kind too many, and behind the last record

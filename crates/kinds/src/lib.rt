@@ -13,10 +13,13 @@ ghost use Rattle.kinds.specs.Counting.{counted, table_counted};
 
 use record::Line;
 use record::codes::{Code, code_bytes, code_of};
-use tables::{Key, enter};
+use tables::{Key, Table};
 
 // The kinds that a batch may have.
 pub const MOST: usize = 1000;
+
+// The places of the table: one more, for the first kind too many.
+const ROOM: usize = MOST + 1;
 
 // The code is DT.
 fn is_account(code: Code) -> bool
@@ -38,17 +41,15 @@ fn has_kind(file: &[u8], first: Line, place: usize) -> bool
     is_account(code)
 }
 
-// The kinds so far, with the record at the place: a DT of a kind that the table lacks counts, and is entered.
-fn count(file: &[u8], first: Line, place: usize, table: &mut [u16], kinds: usize) -> usize
-    requires { Tabled first.number Kind (seen first file.now) table.old kinds × Stands first.number place file.now × (place < 65536) × (kinds < length table.old) }
-    ensures answer { result ≡ counted first.number (seen first file.now) table.old kinds place }
-    ensures after { table.new ≡ table_counted first.number (seen first file.now) table.old kinds place }
+// The kinds so far, with the record at the place: a DT of a kind that the table lacks is entered.
+fn count(file: &[u8], first: Line, place: usize, table: &mut Table<ROOM>)
+    requires { Tabled first.number Kind (seen first file.now) table.old.places table.old.count × Stands first.number place file.now × (place < 65536) × (table.old.count < length table.old.places) }
+    ensures more { table.new.count ≡ counted first.number (seen first file.now) table.old.places table.old.count place }
+    ensures after { table.new.places ≡ table_counted first.number (seen first file.now) table.old.places table.old.count place }
 {
-    if !has_kind(file, first, place) {
-        return kinds;
+    if has_kind(file, first, place) {
+        table.enter(file, first, place, Key::Kind);
     }
-    let entry = enter(file, first, place, Key::Kind, table, kinds);
-    entry.count
 }
 
 // The DT of the records have too many kinds. The pass ends at the first kind too many.
@@ -57,11 +58,10 @@ pub fn are_crowded(part: &[u8], first: Line) -> bool
     ensures { result ≡ crowded (kinds (cut first.number (length (seen first part.now) / 850) (seen first part.now))) }
 {
     let records = part.len() / 850;
-    let mut table = [0u16; MOST + 1];
-    let mut kinds: usize = 0;
+    let mut table: Table<ROOM> = Table::new();
     for place in 0..records {
-        kinds = count(part, first, place, &mut table, kinds);
-        if MOST < kinds {
+        count(part, first, place, &mut table);
+        if MOST < table.count() {
             return true;
         }
     }

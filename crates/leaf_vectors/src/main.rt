@@ -171,14 +171,13 @@ impl Record {
     }
 }
 
-fn show_records(rt: &impl Print) -> io::Result<()> {
+// Records one after the other, whether standard output takes each or not.
+fn show_records(rt: &impl Print) {
     for bytes in (Parts::<850> { most: MOST }) {
-        Record::new(bytes).show(rt)?;
+        let _ = Record::new(bytes).show(rt);
     }
-    Ok(())
 }
 
-// Its exit status doesn't tell whether standard output took the lines.
 fn main(rt: HostRuntime) {
-    let _ = show_records(&rt);
+    show_records(&rt);
 }

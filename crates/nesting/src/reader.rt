@@ -94,6 +94,7 @@ fn may_take_procurement(state: State) -> bool
 }
 
 // The record, of this code, may come next.
+#[tactic(auto, using(crate::proofs::Arms::arms), unfolding(crate::specs::Reader::fits))]
 pub fn fits(rec: &[u8], line: Line, code: Code, state: State) -> bool
     requires { 22 ≤ length rec.now }
     ensures { result ≡ fits state code (held (seen line rec.now) payment_id) }
@@ -181,6 +182,7 @@ fn take(state: State, party: bool, accounts: usize, procurements: usize) -> Stat
 }
 
 // The state after a record that fits.
+#[tactic(auto, using(crate::proofs::Arms::arms), unfolding(crate::specs::Reader::next))]
 pub fn after(rec: &[u8], line: Line, code: Code, state: State) -> State
     requires { (22 ≤ length rec.now) × (state.batches < 65536) × (state.payments < 65536) × (fits state code (held (seen line rec.now) payment_id) ≡ true) }
     ensures { result ≡ next state code (held (seen line rec.now) payment_id) }

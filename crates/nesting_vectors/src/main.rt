@@ -48,19 +48,17 @@ fn show_next(rt: &impl Print, count: usize) -> io::Result<()>
     show_records(rt, &space[..count])
 }
 
-// The first file that is too long ends the list.
-fn show_files(rt: &impl Print) -> io::Result<()> {
+// Files one after the other, whether standard output takes each or not. The first file that is too long ends the list.
+fn show_files(rt: &impl Print) {
     for head in (Parts::<2> { most: MOST }) {
         let count = numbers::read(&head) as usize;
         if count > RECORDS {
             break;
         }
-        show_next(rt, count)?;
+        let _ = show_next(rt, count);
     }
-    Ok(())
 }
 
-// Its exit status doesn't tell whether standard output took the lines.
 fn main(rt: HostRuntime) {
-    let _ = show_files(&rt);
+    show_files(&rt);
 }

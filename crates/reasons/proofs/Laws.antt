@@ -7,7 +7,7 @@ use Prim.Native.Nat.{ℕ, ◌+◌, ◌-◌, ◌*◌, ◌<◌, ◌≤◌}
 use native.Mathlib.Omega.{arith}
 use lib.Dec.{eqb, leb, ltb}
 use borrow.Author.Tests.{lt-leb, le-leb, lt-ltb, le-ltb, eqb-true, eqb-false}
-use lib.ListN.{length, get_or, take, replicate}
+use lib.ListN.{length, get_or, take, replicate, get_or-append}
 use lib.Pointwise.{pointwise}
 use lib.Seq.{take-append_seam, take-append-add, drop-append_seam}
 use borrow.Rule.Slice.PartMut.{put_mid}
@@ -150,6 +150,11 @@ module _ (x n : ℕ) (e : x ≡ n) where
   pub range_high : (a b : ℕ) → a ≤ x → b < x → (leb a n and leb n b) ≡ false
   unfolding ◌and◌
   range_high a b h k = rw (← e, le-leb a x h, lt-leb x b k)
+
+-- the first bytes of a symbol, a serial number and blanks are the symbol's
+pub symbol_byte : (xs ys : List ℕ) (n i : ℕ) → length xs ≡ 4 → length ys ≡ 8 → i < 4 → get_or xs i 0 ≡ get_or (symbol_and_serial xs ys n) i 0
+unfolding symbol_and_serial
+symbol_byte xs ys n i h k b = sym (get_or-append xs (ys ++ replicate n 0x40) 0 i (omega arith))
 
 -- a symbol, a serial number and eight blanks, put together in place; and so many of their bytes
 module _ (xs ys : List ℕ) (h : length xs ≡ 4) (k : length ys ≡ 8) where

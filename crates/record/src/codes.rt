@@ -44,8 +44,8 @@ pub fn code_bytes(rec: &[u8], line: Line) -> [u8; 2]
     [rec[0], rec[1]]
 }
 
-// The code that these bytes name: one of the sixteen of 004, or `Unknown`. It is apart from reading them, so that each is small enough to be
-// drawn into the loops over a file's records.
+// The code that these bytes name: one of the sixteen of 004, or `Unknown`. It is drawn into the loops over a file's records.
+#[inline(always)]
 pub fn code_of(bytes: [u8; 2]) -> Code
     ensures { result ≡ code_in codes bytes }
 {

@@ -99,6 +99,7 @@ pub fn field_solid(rec: &[u8], line: Line, field: Field) -> bool
 }
 
 // The field holds this text, byte for byte; ASCII files send it as the second.
+#[inline(always)]
 pub fn field_is<'a>(rec: &[u8], line: Line, field: Field, text: &'a [u8], ascii: &'a [u8]) -> bool
     requires { Has rec.now field × (twins ascii.now text.now ≡ true) }
     ensures { result ≡ alike (held (seen line rec.now) field) text.now }

@@ -200,6 +200,7 @@ pub(crate) fn is_text<'a>(rec: &[u8], place: Place, text: &'a [u8], ascii: &'a [
 }
 
 // How the first bytes stand to the second in the order of bytes, as they were sent.
+#[inline(always)]
 pub(crate) fn sent_order(rec: &[u8], place: Place, other: &[u8], there: Place) -> Ordering
     requires { Within rec.now place × Within other.now there }
     ensures { result ≡ order (sent rec.now place) (sent other.now there) }

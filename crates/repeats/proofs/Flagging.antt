@@ -19,7 +19,7 @@ use Rattle.tables.specs.Tables.{Stands, member}
 use Rattle.repeats.specs.declared.Sort.TheVariants.{Batches}
 use Rattle.repeats.specs.declared.blocks.Visited.{Visited}
 use Rattle.repeats.specs.Repeats.{numbering, is_of, numbers}
-use Rattle.repeats.specs.Blocks.{lesser, between, meets, visited, table_visited}
+use Rattle.repeats.specs.Blocks.{lesser, between, meets, visited, count_visited, table_visited}
 use Rattle.repeats.specs.Schedules.{flags_of, numbers_before, numbers_from}
 use Rattle.repeats.specs.Marking.{zeros, index_after, flag_at, marks_to, Marked}
 use Rattle.repeats.proofs.Ranges.{numbers_append, between_join, meets_join, meets_none, numbers_more}
@@ -304,14 +304,14 @@ pub record InMarking (room : ℕ) (file : List ℕ) (start from place : ℕ) (ta
   pub spread : Spread file start from next place flags
 
 module _ (file : List ℕ) (start from records : ℕ) (all : records ≡ length file / 850) where
-  pub marking_begun : (table flags : List ℕ) (index : ℕ) → ltb 0 (length table) ≡ true → leb (length table) 65536 ≡ true → from < records → Marked file start from flags → index ≡ length (numbers Batches (between 1 start from file))
-      → InMarking (length table) file start from from table 0 records index index flags
-  marking_begun table flags index r n l m i =
+  pub marking_begun : (table : List ℕ) (count : ℕ) (flags : List ℕ) (index : ℕ) → count ≡ 0 → length table ≡ 4096 → from < records → Marked file start from flags → index ≡ length (numbers Batches (between 1 start from file))
+      → InMarking (length table) file start from from table count records index index flags
+  marking_begun table count flags index z n l m i =
       let h : from < length file / 850 = omega arith in
       let e : length file / 850 - (length file / 850 - from) ≡ from = omega arith in
-      rw all
+      rw (all, z)
       (record {
-        filling = filling_none Batches 1 file from (length file / 850) table r n h;
+        filling = filling_none Batches 1 file from (length file / 850) table n h;
         within = omega arith;
         indexed = i;
         indexed_next = rw e i;
@@ -345,13 +345,13 @@ module _ (file : List ℕ) (start from records : ℕ) (all : records ≡ length 
             go true false a o = let z : after ≡ index = rw (a, o) at after_told in absurd (omega arith)
             go false d a o = let z : after ≡ index = rw a at after_told in absurd (omega arith)
 
-        module _ (table' : List ℕ) (t : table' ≡ table_visited Batches 1 file table count place) (flags' : List ℕ) (w : flags' ≡ choose (ltb index after) (choose v.known (set flags index 1) flags) flags)
+        module _ (grown : ℕ) (d : grown ≡ count_visited Batches 1 file table count place) (table' : List ℕ) (t : table' ≡ table_visited Batches 1 file table count place) (flags' : List ℕ) (w : flags' ≡ choose (ltb index after) (choose v.known (set flags index 1) flags) flags)
             (kept' : ℕ) (g : kept' ≡ choose (ltb place v.next) after kept) where
           told_known : v.known ≡ meets Batches 1 file from (lesser next place) place
           told_known = visit_meets room Batches 1 file from (length file / 850) place table count next b.filling marking_stands v q
 
           next_same : (k : ℕ) → k ≤ place → lesser v.next k ≡ lesser next k
-          next_same = visit_next room Batches 1 file from (length file / 850) place table count next b.filling marking_stands v q table' t
+          next_same = visit_next room Batches 1 file from (length file / 850) place table count next b.filling marking_stands v q grown d table' t
 
           spread_next : Spread file start from v.next (place + 1) flags'
           unfolding choose
@@ -389,10 +389,10 @@ module _ (file : List ℕ) (start from records : ℕ) (all : records ≡ length 
               let x : v.next - (v.next - (place + 1)) ≡ v.next - (v.next - place) = omega (arith, ltb-false place v.next i) in
               g ∙ rw (i, x, next_same place (omega arith)) b.indexed_next
 
-          pub marking_next : InMarking room file start from (place + 1) table' v.count v.next kept' after flags'
+          pub marking_next : InMarking room file start from (place + 1) table' grown v.next kept' after flags'
           marking_next =
               record {
-                filling = filling_next room Batches 1 file from (length file / 850) place table count next b.filling marking_stands v q table' t h;
+                filling = filling_next room Batches 1 file from (length file / 850) place table count next b.filling marking_stands v q grown d table' t h;
                 within = omega arith;
                 indexed = index_after_holds;
                 indexed_next = kept_next _ refl;

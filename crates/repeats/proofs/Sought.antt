@@ -10,7 +10,7 @@ use native.Mathlib.Nat.{eq-or-lt_of_le, le_of_suc-le-suc, lt_irrefl}
 use native.Mathlib.Numerals.{add-one}
 use native.Mathlib.Omega.{arith}
 use borrow.Author.Tests.{ltb-true, ltb-false}
-use lib.Dec.{leb, ltb}
+use lib.Dec.{ltb}
 use lib.ListN.{length}
 use Rattle.record.specs.Choice.{◌or◌}
 use Rattle.nesting.specs.Records.{cut, record_at}
@@ -18,7 +18,7 @@ use Rattle.tables.specs.Tables.{Stands}
 use Rattle.repeats.specs.declared.Sort.TheVariants.{Payments}
 use Rattle.repeats.specs.declared.blocks.Visited.{Visited}
 use Rattle.repeats.specs.Repeats.{repeats}
-use Rattle.repeats.specs.Blocks.{lesser, meets, visited, table_visited, Blocked}
+use Rattle.repeats.specs.Blocks.{lesser, meets, visited, count_visited, table_visited, Blocked}
 use Rattle.repeats.proofs.Firsts.{wanted_repeat, seeking_stop, seeking_end}
 use Rattle.repeats.proofs.Passes.{is_repeat, seek}
 use Rattle.repeats.proofs.Ranges.{meets_join, meets_none, meets_all}
@@ -35,8 +35,8 @@ pub record InBlock (room first : ℕ) (bytes : List ℕ) (from best place : ℕ)
   pub clean : (k : ℕ) → from ≤ k → k < place → meets Payments first bytes from (lesser next k) k ≡ false
 
 module _ (first : ℕ) (bytes : List ℕ) (from best : ℕ) where
-  pub block_begun : (table : List ℕ) → ltb 0 (length table) ≡ true → leb (length table) 65536 ≡ true → from < best → InBlock (length table) first bytes from best from table 0 best
-  block_begun table r n h = record { filling = filling_none Payments first bytes from best table r n h; clean = λ k l m. absurd (omega arith) }
+  pub block_begun : (table : List ℕ) (count : ℕ) → count ≡ 0 → length table ≡ 4096 → from < best → InBlock (length table) first bytes from best from table count best
+  block_begun table count z n h = rw z (record { filling = filling_none Payments first bytes from best table n h; clean = λ k l m. absurd (omega arith) })
 
   module _ (room place : ℕ) (table : List ℕ) (count next : ℕ) (b : InBlock room first bytes from best place table count next) where
     -- a number of the block is an earlier one
@@ -63,16 +63,16 @@ module _ (first : ℕ) (bytes : List ℕ) (from best : ℕ) where
         found = λ l. repeated (sym told ∙ t);
       }
 
-      pub block_next : (after : List ℕ) → after ≡ table_visited Payments first bytes table count place → v.known ≡ false → InBlock room first bytes from best (place + 1) after v.count v.next
-      block_next after a t =
+      pub block_next : (grown : ℕ) → grown ≡ count_visited Payments first bytes table count place → (after : List ℕ) → after ≡ table_visited Payments first bytes table count place → v.known ≡ false → InBlock room first bytes from best (place + 1) after grown v.next
+      block_next grown d after a t =
           record {
-            filling = filling_next room Payments first bytes from best place table count next b.filling standing v q after a h;
+            filling = filling_next room Payments first bytes from best place table count next b.filling standing v q grown d after a h;
             clean = λ k l m. still k l (le_of_suc-le-suc (rw (← add-one place) m));
           }
         where
           still : (k : ℕ) → from ≤ k → k ≤ place → meets Payments first bytes from (lesser v.next k) k ≡ false
           still k l m =
-              let e = visit_next room Payments first bytes from best place table count next b.filling standing v q after a k m in
+              let e = visit_next room Payments first bytes from best place table count next b.filling standing v q grown d after a k m in
               rw e
               (⊎_elim (λ (i : k ≡ place). rw i (sym told ∙ t)) (λ (i : k < place). b.clean k l i) (eq-or-lt_of_le m))
 

@@ -5,7 +5,7 @@ use Rattle.record.specs.Value.{held}
 use Rattle.nesting.specs.Division.{Record}
 use Rattle.nesting.specs.Records.{cut, record_at}
 use Rattle.tables.specs.declared.Key.TheVariants.{Value}
-use Rattle.tables.specs.Tables.{member, is_known, is_new, entry_of, table_after}
+use Rattle.tables.specs.Tables.{member, is_known, is_new, count_after, table_after}
 use Rattle.repeats.specs.declared.Sort.{Sort}
 use Rattle.repeats.specs.declared.Sort.TheVariants.{Payments}
 use Rattle.repeats.specs.declared.blocks.Visited.{Visited}
@@ -30,15 +30,17 @@ module _ (sort : Sort) (first : ℕ) (bytes table : List ℕ) (count place : ℕ
   is_left_out =
       is_of sort (record_at first place bytes) and not (is_known first (Value (numbering sort)) bytes table count place) and not (is_new first (Value (numbering sort)) bytes table count place)
 
-  -- what is known after the record: whether it is of the sort, whether the table holds its number, how many places it holds, and the first
-  -- record that was left out
+  -- what is known after the record: whether it is of the sort, whether the table holds its number, and the first record that was left out
   unfoldable pub visited : ℕ → Visited
   visited next = record {
     own = is_of sort (record_at first place bytes);
     known = is_of sort (record_at first place bytes) and is_known first (Value (numbering sort)) bytes table count place;
-    count = choose (is_of sort (record_at first place bytes)) (entry_of first (Value (numbering sort)) bytes table count place).count count;
     next = choose is_left_out (lesser next place) next;
   }
+
+  -- how many places the table holds after it
+  unfoldable pub count_visited : ℕ
+  count_visited = choose (is_of sort (record_at first place bytes)) (count_after first (Value (numbering sort)) bytes table count place) count
 
   -- the table after it
   unfoldable pub table_visited : List ℕ

@@ -7,24 +7,22 @@ ghost use Rattle.tables.specs.declared.Key.TheVariants.{Value};
 ghost use Rattle.tables.specs.Tables.{Stands, Tabled};
 ghost use Rattle.repeats.specs.declared.Sort.TheVariants.{Payments};
 ghost use Rattle.repeats.specs.Repeats.{numbering, first_repeat};
-ghost use Rattle.repeats.specs.Blocks.{visited, table_visited, Blocked};
+ghost use Rattle.repeats.specs.Blocks.{visited, count_visited, table_visited, Blocked};
 
 use crate::Sort;
 use crate::walk::{is_of, number_field};
 use record::Line;
-use tables::{Key, enter};
+use tables::{Entry, Key, Table};
 
 // The numbers that a block has room for.
 pub(crate) const TABLE: usize = 4096;
 
-// What is known after a record of a block: whether it is of the sort, whether the table holds its number, the places in the table, and the
-// first record that found no room. The two answers stand apart, since `mark_block` asks for each alone: one of three kinds would have to be taken apart
-// there again.
+// What is known after a record of a block: whether it is of the sort, whether the table holds its number, and the first record that found no room.
+// The two answers stand apart, since `mark_block` asks for each alone: one of three kinds would have to be taken apart there again.
 #[derive(Clone, Copy)]
 pub(crate) struct Visited {
     pub(crate) own: bool,
     pub(crate) known: bool,
-    pub(crate) count: usize,
     pub(crate) next: usize,
 }
 
@@ -41,53 +39,38 @@ pub(crate) fn visit(
     first: Line,
     place: usize,
     sort: Sort,
-    table: &mut [u16],
-    count: usize,
+    table: &mut Table<TABLE>,
     next: usize,
 ) -> Visited
-    requires { Tabled first.number (Value (numbering sort)) (seen first file.now) table.old count × Stands first.number place file.now × (place < 65536) }
-    ensures answer { result ≡ visited sort first.number (seen first file.now) table.old count place next }
-    ensures after { table.new ≡ table_visited sort first.number (seen first file.now) table.old count place }
+    requires { Tabled first.number (Value (numbering sort)) (seen first file.now) table.old.places table.old.count × Stands first.number place file.now × (place < 65536) }
+    ensures answer { result ≡ visited sort first.number (seen first file.now) table.old.places table.old.count place next }
+    ensures more { table.new.count ≡ count_visited sort first.number (seen first file.now) table.old.places table.old.count place }
+    ensures after { table.new.places ≡ table_visited sort first.number (seen first file.now) table.old.places table.old.count place }
 {
     if !is_of(file, first, place, sort) {
         return Visited {
             own: false,
             known: false,
-            count,
             next,
         };
     }
     let field = number_field(sort);
-    let entry = enter(file, first, place, Key::Value(field), table, count);
-    if entry.known {
-        return Visited {
+    match table.enter(file, first, place, Key::Value(field)) {
+        Entry::Known => Visited {
             own: true,
             known: true,
-            count,
             next,
-        };
-    }
-    if count < entry.count {
-        return Visited {
+        },
+        Entry::New => Visited {
             own: true,
             known: false,
-            count: entry.count,
             next,
-        };
-    }
-    if place < next {
-        return Visited {
+        },
+        Entry::Full => Visited {
             own: true,
             known: false,
-            count,
-            next: place,
-        };
-    }
-    Visited {
-        own: true,
-        known: false,
-        count,
-        next,
+            next: next.min(place),
+        },
     }
 }
 
@@ -97,15 +80,13 @@ fn block(part: &[u8], first: Line, from: usize, best: usize) -> BlockEnd
     requires { (length part.now ≤ 65535 * 850) × (first.number ≤ 65536) × (best * 850 ≤ length part.now) × (from < best) }
     ensures { Blocked first.number (seen first part.now) from best result.place result.next }
 {
-    let mut table = [0u16; TABLE];
-    let mut count: usize = 0;
+    let mut table: Table<TABLE> = Table::new();
     let mut next = best;
     for place in from..best {
-        let seen = visit(part, first, place, Sort::Payments, &mut table, count, next);
+        let seen = visit(part, first, place, Sort::Payments, &mut table, next);
         if seen.known {
             return BlockEnd { place, next };
         }
-        count = seen.count;
         next = seen.next;
     }
     BlockEnd { place: best, next }

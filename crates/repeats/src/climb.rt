@@ -8,7 +8,8 @@ use crate::walk::id_of;
 use record::Line;
 use record::codes::{Code, is_detail};
 
-// Whether a Payment ID failed to stand after all those before it, and the greatest ID before it fell.
+// Whether a Payment ID failed to stand after all those before it, and the greatest ID before it fell. No Option: `climb` promises by `climbed` that
+// the greatest stays known after a fall.
 #[derive(Clone, Copy)]
 pub struct Climbing {
     pub falls: bool,

@@ -12,6 +12,7 @@ ghost use Rattle.repeats.specs.Schedules.{numbers_before, numbers_from, flags_of
 use crate::Sort;
 use crate::blocks::{TABLE, visit};
 use record::Line;
+use tables::Table;
 
 // Where the next block begins, and the index of the flag of the first header from there on.
 #[derive(Clone, Copy)]
@@ -81,17 +82,15 @@ fn mark_block(
 {
     let first = Line { number: 1, ascii };
     let records = file.len() / 850;
-    let mut table = [0u16; TABLE];
-    let mut count: usize = 0;
+    let mut table: Table<TABLE> = Table::new();
     let mut next = records;
     let mut kept = index;
     let mut flag = index;
     for place in from..records {
-        let seen = visit(file, first, place, Sort::Batches, &mut table, count, next);
+        let seen = visit(file, first, place, Sort::Batches, &mut table, next);
         let after = index_after(start, place, seen.own, flag);
         set_flag(flags, flag, after, seen.known);
         kept = kept_index(place, seen.next, kept, after);
-        count = seen.count;
         next = seen.next;
         flag = after;
     }

@@ -26,7 +26,7 @@ pub enum Sort {
 }
 
 // What is known of a batch's schedule number: whether an earlier batch has it, the greatest number while they rise, and whether the batches are
-// marked.
+// marked. No Option: `number_batch` promises by `numbered` that the greatest stays known beside the mark.
 #[derive(Clone, Copy)]
 pub struct Numbering {
     pub repeats: bool,

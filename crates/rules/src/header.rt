@@ -142,11 +142,7 @@ pub fn header_rules(
             start(rec, line, context)?;
             end_w(rec, line, context)
         }
-        Letter::I => {
-            start(rec, line, context)?;
-            end_other(rec, line, context)
-        }
-        Letter::A => {
+        Letter::I | Letter::A => {
             start(rec, line, context)?;
             end_other(rec, line, context)
         }

@@ -27,16 +27,15 @@ fn show_row(rt: &impl Print, row: &[u8]) -> io::Result<()> {
     println!(rt;)
 }
 
-// The rows that stand in a part of the report.
-fn show_rows(rt: &impl Print, rows: &[u8]) -> io::Result<()> {
+// The rows that stand in a part of the report, whether standard output takes each or not.
+fn show_rows(rt: &impl Print, rows: &[u8]) {
     for row in rows.chunks_exact(64) {
-        show_row(rt, row)?;
+        let _ = show_row(rt, row);
     }
-    Ok(())
 }
 
 // The head, and the rows of the batches behind it.
-fn show_report(rt: &impl Print, report: &[u8]) -> io::Result<()>
+fn show_report(rt: &impl Print, report: &[u8])
     requires { 64 ≤ length report.now }
 {
     let batches = numbers::read(&report[BATCHES..BATCHES + 8]) as usize;
@@ -47,25 +46,24 @@ fn show_report(rt: &impl Print, report: &[u8]) -> io::Result<()>
     }
 }
 
-fn show_answer(rt: &impl Print, file: &[u8], book: &[u8]) -> io::Result<()> {
+fn show_answer(rt: &impl Print, file: &[u8], book: &[u8]) {
     let mut report = [0; REPORT];
     let answer = judge::srf_judge(file, book, &mut report);
     if answer == 0 {
-        show_report(rt, &report)
+        show_report(rt, &report);
     } else {
-        println!(rt; "{answer}")
+        let _ = println!(rt; "{answer}");
     }
 }
 
-// Its exit status doesn't tell whether standard output took the lines.
 fn main(rt: HostRuntime) {
     let mut book = [0; SPACE];
     let mut file = [0; SPACE];
     let book_size = loading::read_file(&rt, "book.bin", &mut book);
     let size = loading::read_input(&mut file);
-    let _ = if size > MOST || book_size > MOST {
-        println!(rt; "too long")
-    } else {
-        show_answer(&rt, &file[..size], &book[..book_size])
-    };
+    if size > MOST || book_size > MOST {
+        let _ = println!(rt; "too long");
+        return;
+    }
+    show_answer(&rt, &file[..size], &book[..book_size]);
 }

@@ -18,12 +18,12 @@ use Rattle.record.proofs.Same.{alike_equal}
 use Rattle.record.proofs.Orders.{turn_after}
 use Rattle.tables.specs.declared.Entry.{Entry}
 use Rattle.tables.specs.declared.Key.{Key}
-use Rattle.tables.specs.Tables.{Stands, Tabled, value_at, values_at, kept, member, rank, inserted_at, is_known, entry_of, table_after}
+use Rattle.tables.specs.Tables.{Stands, Tabled, value_at, values_at, kept, member, rank, inserted_at, is_known, tells_known, entry_of, count_after, table_after}
 use Rattle.tables.proofs.Values.{Parted, rank_parted, parted_after, member_between}
 use Rattle.tables.proofs.Inserts.{Source, source, inserted_length, inserted_take, taken}
 use Rattle.tables.proofs.Inserts.Source.{under, seated, over}
 use Rattle.tables.proofs.Seeks.{key_in, kept_length, kept_at, values_append}
-use Rattle.tables.proofs.Enters.{seat_in, known_entry, known_table, new_entry, new_table, full_entry, full_table}
+use Rattle.tables.proofs.Enters.{seat_in, known_count, known_table, new_count, new_table, full_count, full_table, entry_known}
 
 -- a record stands among bytes as the rules see them where it stands among those that were sent
 pub stands_shown : (ascii : Bool) (first place : ℕ) (xs : List ℕ) → Stands first place xs → Stands first place (shown ascii xs)
@@ -42,6 +42,11 @@ member_again x y ys t = go (alike x y) (member y ys) refl refl
     go true m e f = rw (member_snoc y ys x, ← alike_equal x y e, t)
     go false true e f = rw (member_snoc y ys x, e, f)
     go false false e f = rw (member_snoc y ys x, e, f)
+
+-- the answer tells whether the table held the value
+pub entry_tells : (first : ℕ) (key : Key) (bytes table : List ℕ) (count place : ℕ) → tells_known (entry_of first key bytes table count place) ≡ is_known first key bytes table count place
+unfolding is_known
+entry_tells first key bytes table count place = entry_known first key bytes table count place
 
 -- the table is in order, and holds just these values
 pub record Holds (first : ℕ) (key : Key) (bytes table : List ℕ) (count : ℕ) (vs : List (List ℕ)) : Type 0 where
@@ -121,27 +126,26 @@ module _ (first : ℕ) (key : Key) (bytes : List ℕ) where
         ∙ ap (λ (ps : List ℕ). member y (values_at first key bytes ps) or alike x y) (taken table count seat place seat_fits room)
 
   -- a record is entered
-  module _ (table : List ℕ) (count : ℕ) (vs : List (List ℕ)) (place : ℕ) (h : Holds first key bytes table count vs) (s : Stands first place bytes) (e : Entry) (after : List ℕ) (r : e ≡ entry_of first key bytes table count place) (a : after ≡ table_after first key bytes table count place) where
-    known_in : e.known ≡ member (value_at first key bytes place) (kept first key bytes table count)
-    unfolding entry_of is_known
-    known_in = ap (λ (q : Entry). q.known) r
+  module _ (table : List ℕ) (count : ℕ) (vs : List (List ℕ)) (place : ℕ) (h : Holds first key bytes table count vs) (s : Stands first place bytes) (e : Entry) (n : ℕ) (after : List ℕ) (r : e ≡ entry_of first key bytes table count place) (c : n ≡ count_after first key bytes table count place) (a : after ≡ table_after first key bytes table count place) where
+    known_in : tells_known e ≡ member (value_at first key bytes place) (kept first key bytes table count)
+    known_in = ap tells_known r ∙ entry_known first key bytes table count place
 
-    pub known_is : e.known ≡ member (value_at first key bytes place) vs
+    pub known_is : tells_known e ≡ member (value_at first key bytes place) vs
     known_is = known_in ∙ h.same (value_at first key bytes place)
 
-    pub count_known : e.known ≡ true → e.count ≡ count
-    count_known k = ap (λ (q : Entry). q.count) (r ∙ sym (known_entry first key bytes table count place e.known known_in k))
+    pub count_known : tells_known e ≡ true → n ≡ count
+    count_known k = c ∙ sym (known_count first key bytes table count place (tells_known e) known_in k)
 
-    pub holds_known : e.known ≡ true → Holds first key bytes after e.count vs
-    holds_known k = rw (count_known k, a, ← known_table first key bytes table count place e.known known_in k) h
+    pub holds_known : tells_known e ≡ true → Holds first key bytes after n vs
+    holds_known k = rw (count_known k, a, ← known_table first key bytes table count place (tells_known e) known_in k) h
 
-    module _ (k : e.known ≡ false) where
-      pub count_new : count < length table → e.count ≡ count + 1
-      count_new l = ap (λ (q : Entry). q.count) (r ∙ sym (new_entry first key bytes table count place e.known known_in k l))
+    module _ (k : tells_known e ≡ false) where
+      pub count_new : count < length table → n ≡ count + 1
+      count_new l = c ∙ sym (new_count first key bytes table count place (tells_known e) known_in k l)
 
-      pub holds_new : count < length table → Holds first key bytes after e.count (vs ++ value_at first key bytes place ∷ [])
+      pub holds_new : count < length table → Holds first key bytes after n (vs ++ value_at first key bytes place ∷ [])
       holds_new l =
-          rw (count_new l, a, ← new_table first key bytes table count place e.known known_in _ _ k l refl refl)
+          rw (count_new l, a, ← new_table first key bytes table count place (tells_known e) known_in _ _ k l refl refl)
           (record {
             tabled = inserted_tabled table count place h.tabled (sym known_in ∙ k) l s;
             same = λ y.
@@ -150,21 +154,21 @@ module _ (first : ℕ) (key : Key) (bytes : List ℕ) where
                 ∙ sym (member_snoc y vs (value_at first key bytes place));
           })
 
-      pub count_full : length table ≤ count → e.count ≡ count
-      count_full l = ap (λ (q : Entry). q.count) (r ∙ sym (full_entry first key bytes table count place e.known known_in k l))
+      pub count_full : length table ≤ count → n ≡ count
+      count_full l = c ∙ sym (full_count first key bytes table count place (tells_known e) known_in k l)
 
-      pub holds_full : length table ≤ count → Holds first key bytes after e.count vs
-      holds_full l = rw (count_full l, a, ← full_table first key bytes table count place e.known known_in k l) h
+      pub holds_full : length table ≤ count → Holds first key bytes after n vs
+      holds_full l = rw (count_full l, a, ← full_table first key bytes table count place (tells_known e) known_in k l) h
 
     pub after_length : length after ≡ length table
-    after_length = go e.known refl
+    after_length = go (tells_known e) refl
       where
-        go : (b : Bool) → e.known ≡ b → length after ≡ length table
-        go true k = rw (a, ← known_table first key bytes table count place e.known known_in k)
+        go : (b : Bool) → tells_known e ≡ b → length after ≡ length table
+        go true k = rw (a, ← known_table first key bytes table count place (tells_known e) known_in k)
         go false k =
             ⊎_elim
-            (λ (q : length table - count ≡ 0). rw (a, ← full_table first key bytes table count place e.known known_in k (omega arith)))
+            (λ (q : length table - count ≡ 0). rw (a, ← full_table first key bytes table count place (tells_known e) known_in k (omega arith)))
             (λ (q : 0 < length table - count).
-            rw (a, ← new_table first key bytes table count place e.known known_in _ _ k (omega arith) refl refl)
+            rw (a, ← new_table first key bytes table count place (tells_known e) known_in _ _ k (omega arith) refl refl)
             (inserted_length table count _ place (seat_in first key bytes table count place _ h.tabled refl) (omega arith)))
             (eq-zero-or-pos (length table - count))

@@ -1,5 +1,5 @@
 -- A table of places: records in ascending order of a key, what a field holds or a DT's kind, each value once.
-use Rattle.std.specs.Prelude.{ℕ, ◌+◌, ◌-◌, ◌*◌, ◌<◌, ◌≤◌, ◌≡◌, Bool, false, not, List, [], ◌∷◌, ◌++◌, ltb, length, take, drop, get_or}
+use Rattle.std.specs.Prelude.{ℕ, ◌+◌, ◌-◌, ◌*◌, ◌<◌, ◌≤◌, ◌≡◌, Bool, true, false, not, List, [], ◌∷◌, ◌++◌, ltb, length, take, drop, get_or}
 use Rattle.std.specs.declared.cmp.Ordering.TheVariants.{Less}
 use Rattle.record.specs.Choice.{◌and◌, ◌or◌, choose}
 use Rattle.record.specs.Value.{held}
@@ -7,6 +7,7 @@ use Rattle.record.specs.Tests.{alike}
 use Rattle.record.specs.Ordering.{order, is_before}
 use Rattle.nesting.specs.Records.{record_at}
 use Rattle.tables.specs.declared.Entry.{Entry}
+use Rattle.tables.specs.declared.Entry.TheVariants.{Known, New, Full}
 use Rattle.tables.specs.declared.Key.{Key}
 use Rattle.tables.specs.declared.Key.TheVariants.{Value, Kind}
 use Rattle.tables.specs.Kind.{kind}
@@ -24,6 +25,12 @@ key_of Kind rec = kind rec
 abbrev pub InRecord : Key → Type 0
 InRecord (Value field) = (1 ≤ field.start) × (field.start + field.width ≤ 851)
 InRecord Kind = Unit {0}
+
+-- the answer says that the table held the value
+unfoldable pub tells_known : Entry → Bool
+tells_known Known = true
+tells_known New = false
+tells_known Full = false
 
 -- one of these values
 unfoldable pub member : List ℕ → List (List ℕ) → Bool
@@ -71,7 +78,11 @@ module _ (first : ℕ) (key : Key) (bytes : List ℕ) where
 
     -- what became of the record
     unfoldable pub entry_of : Entry
-    entry_of = record { known = is_known; count = choose is_new (count + 1) count }
+    entry_of = choose is_known Known (choose is_new New Full)
+
+    -- how many places the table holds after it
+    unfoldable pub count_after : ℕ
+    count_after = choose is_new (count + 1) count
 
     -- the table after it: a new value stands behind those before it, and what follows moves up by one place
     unfoldable pub table_after : List ℕ
