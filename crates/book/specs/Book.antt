@@ -178,7 +178,7 @@ unfoldable pub entry_for : ℕ → List (List ℕ) → List ℕ → Option (List
 entry_for width [] x = None
 entry_for width (e ∷ es) x = choose (alike (entry_code width e) x) (Some e) (entry_for width es x)
 
--- the flag of an entry of kind 2 or 3, after a code of eight bytes; an entry that is no longer has none
+-- the flag of an entry of kind 2 or 3, after a code of eight bytes; an entry of eight bytes has none
 unfoldable pub flag_of : List ℕ → Bool
 flag_of e = eqb (get_or e 8 0) 1
 

@@ -76,7 +76,7 @@ pub fn plus(a: Amount, b: Amount) -> Amount
     }
 }
 
-// The two amounts are worth the same.
+// The two amounts are worth the same. `==` under the name by which docs/CONTRACTS.md has it.
 pub fn is_equal(a: Amount, b: Amount) -> bool
     requires { Whole a × Whole b }
     ensures { result ≡ eqb (worth a) (worth b) }
@@ -84,7 +84,7 @@ pub fn is_equal(a: Amount, b: Amount) -> bool
     a == b
 }
 
-// The first amount is worth more than the second.
+// The first amount is worth more than the second. `>` under the name by which docs/CONTRACTS.md has it.
 pub fn is_above(a: Amount, b: Amount) -> bool
     requires { Whole a × Whole b }
     ensures { result ≡ ltb (worth b) (worth a) }

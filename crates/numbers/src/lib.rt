@@ -4,7 +4,7 @@
 ghost use Rattle.std.specs.Prelude.{◌≡◌, ◌<◌, ◌≤◌, ◌^◌, length};
 ghost use Rattle.numbers.specs.Numbers.{little, number_in};
 
-// The number of a byte.
+// The number of a byte. `u64::from` under the name by which docs/CONTRACTS.md has it.
 pub fn wide(byte: u8) -> u64
     ensures { (result ≡ byte) × (result < 256) }
 {

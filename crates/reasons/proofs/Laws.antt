@@ -185,5 +185,10 @@ same_bytes (x ∷ xs) (y ∷ ys) = rw (same_bytes xs ys) (go (eqb x y))
     go true = refl
     go false = refl
 
+-- of copies of the field and of the serial number
+pub composed_held : (r : Bool) (own field symbol serial number : List ℕ) (width : ℕ) → own ≡ field → length field ≡ width → serial ≡ number
+    → r ≡ alike own (symbol_and_serial symbol serial (length own - 12)) → r ≡ alike field (symbol_and_serial symbol number (width - 12))
+composed_held r own field symbol serial number width e w n h = h ∙ rw (e, w, n)
+
 -- what the checks of fields are worked out by
 pub ruleset checks = (chain, reads, dashed_told, plain_told, routing_blank, routing_digits, equals, above, some_cents, no_cents, whole_nothing, whole_limit, whole_of, range_low, range_in, range_high)

@@ -38,7 +38,7 @@ plain_day v = choose (blank v) (Err Blank) (choose (plain_date v) sound (Err NoD
 unfoldable pub month_and_year : List ℕ → Checked Reason
 month_and_year v = choose (blank v) (Err Blank) (choose (digits v) (choose (month_year v) sound (Err NoDay)) (Err Shape))
 
--- a rule of a month, which none meets
+-- a rule of a month; where there is no month it is not met
 unfoldable pub in_month : (Month → Bool) → Option Month → Bool
 in_month rule None = false
 in_month rule (Some month) = rule month

@@ -126,6 +126,36 @@ codes_apart BatchTrailer = refl
 codes_apart FileTrailer = refl
 codes_apart Unknown = refl
 
+-- a test of a record's code, code by code: where the record has the bytes of a code, what the test says of that; where it has those of no code of which the test holds, no
+pub named : (q : Code → Bool) (c : Code) (b : Bool) (rec : List ℕ) → q c ≡ b → alike (held rec record_code) (code_bytes c) ≡ true → b ≡ q (code_of rec)
+unfolding code_of
+named q c b rec t e = rw (alike_equal (held rec record_code) (code_bytes c) e, codes_apart c, t)
+
+-- of the last code that is asked for, the others having been
+last_of : (q : Code → Bool) (c : Code) (rec : List ℕ) (r : Bool) → q c ≡ true → q Unknown ≡ false → r ≡ alike (held rec record_code) (code_bytes c)
+    → (alike (held rec record_code) (code_bytes c) ≡ false → AllFail q (held rec record_code) codes) → r ≡ q (code_of rec)
+unfolding code_of
+last_of q c rec true t u e h = named q c true rec t (sym e)
+last_of q c rec false t u e h = sym (none_in q codes (held rec record_code) u (h (sym e)))
+
+-- the record has not the code of this letter
+abbrev NoCode : (Letter → Code) → List ℕ → Letter → Type 0
+NoCode kind rec l = alike (held rec record_code) (code_bytes (kind l)) ≡ false
+
+pub last_detail : (rec : List ℕ) (r : Bool) → NoCode Detail rec N → NoCode Detail rec C → NoCode Detail rec W → NoCode Detail rec I
+    → r ≡ alike (held rec record_code) (code_bytes (Detail A)) → r ≡ is_detail (code_of rec)
+unfolding is_detail
+last_detail rec r n c w i e =
+    last_of is_detail (Detail A) rec r refl refl e
+    (λ a. search (none, other, apart) depth 40)
+
+pub last_header : (rec : List ℕ) (r : Bool) → NoCode Batch rec N → NoCode Batch rec C → NoCode Batch rec W → NoCode Batch rec I
+    → r ≡ alike (held rec record_code) (code_bytes (Batch A)) → r ≡ is_header (code_of rec)
+unfolding is_header
+last_header rec r n c w i e =
+    last_of is_header (Batch A) rec r refl refl e
+    (λ a. search (none, other, apart) depth 40)
+
 -- a code that is found is known by its bytes
 pub code_bytes_holds : (cs : List Code) (xs : List ℕ) → (code_in cs xs ≡ Unknown) ⊎ (xs ≡ code_bytes (code_in cs xs))
 unfolding code_in choose

@@ -1,4 +1,4 @@
--- Where a value stands that has to be moved (02 W3): zeros, a part of the record, and blanks. Of the promises to other crates `field_part`'s alone names any of it: when its part is empty.
+-- Where a value stands that has to be moved (02 W3): zeros, a part of the record, and blanks. Of the promises to other crates `field_part`'s alone names any of it: when there is no part.
 use Rattle.std.specs.Prelude.{ℕ, ◌+◌, ◌-◌, ◌≤◌, ◌≡◌, Bool, true, false, not, Option, MatchOption, List, ◌++◌, eqb, length, get_or, replicate}
 use Rattle.record.specs.declared.Justification.{Justification}
 use Rattle.record.specs.declared.Justification.TheVariants.{Text, Number, Right, Fixed}
