@@ -10,7 +10,7 @@ use record::codes::Letter;
 pub(crate) const MOST: usize = 1100;
 
 // Writes the place of each DT in its field 81 (positions 31 to 34), which no rule reads: a batch has as many kinds as DT.
-fn tell_apart(file: &mut File<MOST>, from: usize, to: usize)
+fn tell_apart(file: &mut File<'_, MOST>, from: usize, to: usize)
     requires { to ≤ file.old.count }
     ensures { file.new.count ≡ file.old.count }
 {
@@ -19,7 +19,13 @@ fn tell_apart(file: &mut File<MOST>, from: usize, to: usize)
     }
 }
 
-fn push_payment(file: &mut File<MOST>, at_hand: AtHand<'_>, letter: Letter, shape: Shape, n: usize)
+fn push_payment(
+    file: &mut File<'_, MOST>,
+    at_hand: AtHand<'_>,
+    letter: Letter,
+    shape: Shape,
+    n: usize,
+)
     ensures { file.old.count ≤ file.new.count }
 {
     let from = file.count;
@@ -28,7 +34,7 @@ fn push_payment(file: &mut File<MOST>, at_hand: AtHand<'_>, letter: Letter, shap
     file.number::<2>(from, n);
 }
 
-fn push_payments(file: &mut File<MOST>, at_hand: AtHand<'_>, letter: Letter, shape: Shape)
+fn push_payments(file: &mut File<'_, MOST>, at_hand: AtHand<'_>, letter: Letter, shape: Shape)
     ensures { file.old.count ≤ file.new.count }
 {
     for n in 0..shape.payments {
@@ -37,7 +43,7 @@ fn push_payments(file: &mut File<MOST>, at_hand: AtHand<'_>, letter: Letter, sha
 }
 
 // A file with a sound batch of this letter and shape; without records where it would be too long. Counts and sums have two digits.
-pub(crate) fn build(file: &mut File<MOST>, at_hand: AtHand<'_>, letter: Letter, shape: Shape) {
+pub(crate) fn build(file: &mut File<'_, MOST>, at_hand: AtHand<'_>, letter: Letter, shape: Shape) {
     file.count = 0;
     file.push(at_hand.file_header);
     file.push_header::<2>(at_hand, letter, shape.payments);

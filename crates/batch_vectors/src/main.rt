@@ -1,5 +1,6 @@
 // Shows the row (01 Report) of each case of a table: a sound batch, or one with changes, in a file of its own between FH and FT.
-// Where the records do not nest as one batch it says `no batch`.
+// Where the records do not nest as one batch it says `no batch`. Each number, blank and word is written by itself: one that standard
+// output does not take is left out, and what comes after it is written all the same.
 #![tactic(auto)]
 
 mod files;
@@ -17,8 +18,6 @@ use cases::changes;
 use cases::files::{AT_HAND, AtHand, File};
 use files::MOST;
 use record::Line;
-use std::alloc::AllocError;
-use std::io;
 
 // The most bytes of the code book, and of the table.
 const BOOK: usize = 4096;
@@ -33,20 +32,35 @@ const LABEL: usize = 48;
 // The last four digits of a number count.
 type Words<'a> = cases::words::Words<'a, 10000>;
 
-// The eight numbers of a row.
-fn show_row(rt: &impl Print, row: Row) -> io::Result<()> {
-    let total = row.total;
-    print!(rt;
-        "{} {} {} {} {} ",
-        row.first_record, row.records, row.payments, total.high, total.low
-    )?;
+// The reason of a finding, the number of the record at fault, and the field; three times 0 where nothing is found.
+fn finding_of(row: Row) -> [u64; 3] {
     match row.finding {
-        Ok(()) => print!(rt; "0 0 0"),
-        Err(finding) => {
-            let reason = u64::from(finding.reason);
-            print!(rt; "{reason} {} {}", finding.record_number, finding.field)
-        }
+        Ok(()) => [0; 3],
+        Err(finding) => [
+            u64::from(finding.reason),
+            finding.record_number as u64,
+            finding.field as u64,
+        ],
     }
+}
+
+// The eight numbers of a row, with a blank after each but the last.
+fn show_row(rt: &impl Print, row: Row) {
+    let [reason, record_number, field] = finding_of(row);
+    let numbers = [
+        row.first_record as u64,
+        row.records as u64,
+        row.payments,
+        row.total.high,
+        row.total.low,
+        reason,
+        record_number,
+    ];
+    for number in numbers {
+        let _ = print!(rt; "{number}");
+        let _ = rt.write_all(b" ");
+    }
+    let _ = print!(rt; "{field}");
 }
 
 // Today by a case's word: 2024-02-29 is lent where it is 2.
@@ -59,13 +73,7 @@ fn today_by(word: usize) -> Option<Day> {
 }
 
 // The row of the batch whose records are the part of the file behind FH; its schedule number repeats where the case's word is 1.
-fn show_batch(
-    rt: &impl Print,
-    book: &[u8],
-    shelves: Book,
-    part: &[u8],
-    word: usize,
-) -> io::Result<()>
+fn show_batch(rt: &impl Print, book: &[u8], shelves: Book, part: &[u8], word: usize)
     requires { Usable book.now shelves × Judgeable 2 (shown false part.now) }
 {
     let first = Line {
@@ -75,29 +83,25 @@ fn show_batch(
     show_row(
         rt,
         batch::judge_batch(book, shelves, today_by(word), part, first, word == 1),
-    )
+    );
 }
 
 // A file's only batch stands between FH and FT.
-fn show_file(
-    rt: &impl Print,
-    book: &[u8],
-    shelves: Book,
-    file: &[u8],
-    word: usize,
-) -> io::Result<()>
+fn show_file(rt: &impl Print, book: &[u8], shelves: Book, file: &[u8], word: usize)
     requires { Usable book.now shelves × Cuttable file.now }
 {
     match survey::survey_file(file, false) {
         Ok(found) if found.counts.batches == 1 => {
-            show_batch(rt, book, shelves, &file[850..file.len() - 850], word)
+            show_batch(rt, book, shelves, &file[850..file.len() - 850], word);
         }
-        _ => print!(rt; "no batch"),
+        _ => {
+            let _ = rt.write_all(b"no batch");
+        }
     }
 }
 
 // Makes a row's changes; their number stands before them.
-fn make_changes(file: &mut File<MOST>, words: &mut Words<'_>)
+fn make_changes(file: &mut File<'_, MOST>, words: &mut Words<'_>)
     ensures { file.new.count ≡ file.old.count }
 {
     for _ in 0..words.next_number() {
@@ -110,10 +114,10 @@ fn show_case(
     rt: &impl Print,
     book: &[u8],
     shelves: Book,
-    file: &mut File<MOST>,
+    file: &mut File<'_, MOST>,
     at_hand: AtHand<'_>,
     row: &[u8],
-) -> io::Result<()>
+)
     requires { Usable book.now shelves }
 {
     let mut words = Words { rest: row };
@@ -122,7 +126,7 @@ fn show_case(
     let shape = words.next_shape();
     files::build(file, at_hand, letter, shape);
     make_changes(file, &mut words);
-    show_file(rt, book, shelves, file.made(), word)
+    show_file(rt, book, shelves, file.made(), word);
 }
 
 // A row: its label, and what it shows.
@@ -130,33 +134,32 @@ fn show_line(
     rt: &impl Print,
     book: &[u8],
     shelves: Book,
-    file: &mut File<MOST>,
+    file: &mut File<'_, MOST>,
     at_hand: AtHand<'_>,
     row: &[u8],
-) -> io::Result<()>
+)
     requires { Usable book.now shelves }
 {
-    let Some((label, words)) = row.split_at_checked(LABEL) else {
-        return Ok(());
-    };
-    rt.write_all(label)?;
-    show_case(rt, book, shelves, file, at_hand, words)?;
-    println!(rt;)
+    if let Some((label, words)) = row.split_at_checked(LABEL) {
+        let _ = rt.write_all(label);
+        show_case(rt, book, shelves, file, at_hand, words);
+        let _ = println!(rt;);
+    }
 }
 
-// Rows one after the other, whether standard output takes each or not.
+// Rows one after the other.
 fn show_rows(
     rt: &impl Print,
     book: &[u8],
     shelves: Book,
-    file: &mut File<MOST>,
+    file: &mut File<'_, MOST>,
     at_hand: AtHand<'_>,
     table: &[u8],
 )
     requires { Usable book.now shelves }
 {
     for row in table.split(|byte| *byte == b'\n') {
-        let _ = show_line(rt, book, shelves, file, at_hand, row);
+        show_line(rt, book, shelves, file, at_hand, row);
     }
 }
 
@@ -164,7 +167,7 @@ fn show_rows(
 fn show_table(
     rt: &impl Print,
     book: &[u8],
-    file: &mut File<MOST>,
+    file: &mut File<'_, MOST>,
     at_hand: AtHand<'_>,
     table: &[u8],
 ) {
@@ -173,14 +176,15 @@ fn show_table(
     }
 }
 
-fn main(rt: HostRuntime) -> Result<(), AllocError> {
+fn main(rt: HostRuntime) {
     let mut book = [0; BOOK];
     let mut at_hand = [0x40; AT_HAND];
     let mut table = [0; TABLE];
     let size = loading::read_file(&rt, "book.bin", &mut book);
     loading::read_file(&rt, "records.bin", &mut at_hand);
     let end = loading::read_input(&mut table);
-    let mut file = File::new(rt.alloc())?;
+    let mut space = [[0x40; 850]; MOST];
+    let mut file = File::new(&mut space);
     show_table(
         &rt,
         &book[..size],
@@ -188,5 +192,4 @@ fn main(rt: HostRuntime) -> Result<(), AllocError> {
         AtHand::new(&at_hand),
         &table[..end],
     );
-    Ok(())
 }

@@ -8,7 +8,6 @@ ghost use Rattle.book.specs.Book.{Shelved, Usable};
 use book::{Book, Section, reading, search};
 use loading::Parts;
 use record::{Field, Justification, Line};
-use std::io;
 
 // The most books that are shown.
 const MOST: usize = 10000;
@@ -22,14 +21,14 @@ const LINE: Line = Line {
     ascii: false,
 };
 
+// A number and a blank. What standard output does not take of a line is left out, and the rest of the line follows.
+fn show(rt: &impl Print, number: usize) {
+    let _ = print!(rt; "{number}");
+    let _ = print!(rt; " ");
+}
+
 // The entries of a section, the length of the one whose code the query begins with, and its flag.
-fn show_section(
-    rt: &impl Print,
-    book: &[u8],
-    section: Section,
-    query: &[u8; 40],
-    width: usize,
-) -> io::Result<()>
+fn show_section(rt: &impl Print, book: &[u8], section: Section, query: &[u8; 40], width: usize)
     requires { Shelved book.now section × (width ≤ 40) }
 {
     let field = Field {
@@ -38,50 +37,58 @@ fn show_section(
         justification: Justification::Text,
     };
     let entry = search::find(book, section, query, LINE, field).unwrap_or(&[]);
-    let flag = u8::from(search::flag(entry));
-    print!(rt; "{} {} {flag} ", section.count, entry.len())
+    show(rt, section.count);
+    show(rt, entry.len());
+    show(rt, usize::from(search::flag(entry)));
 }
 
-fn show_sections(rt: &impl Print, book: &[u8], found: Book, query: &[u8; 40]) -> io::Result<()>
+fn show_sections(rt: &impl Print, book: &[u8], found: Book, query: &[u8; 40])
     requires { Usable book.now found }
 {
-    show_section(rt, book, found.systems, query, 40)?;
-    show_section(rt, book, found.locations, query, 8)?;
-    show_section(rt, book, found.betcs, query, 8)?;
-    show_section(rt, book, found.types, query, 25)?;
-    show_section(rt, book, found.states, query, 2)?;
-    show_section(rt, book, found.countries, query, 2)?;
-    show_section(rt, book, found.currencies, query, 3)
+    show_section(rt, book, found.systems, query, 40);
+    show_section(rt, book, found.locations, query, 8);
+    show_section(rt, book, found.betcs, query, 8);
+    show_section(rt, book, found.types, query, 25);
+    show_section(rt, book, found.states, query, 2);
+    show_section(rt, book, found.countries, query, 2);
+    show_section(rt, book, found.currencies, query, 3);
 }
 
-fn show_book(rt: &impl Print, book: &[u8], query: &[u8; 40]) -> io::Result<()> {
+fn show_book(rt: &impl Print, book: &[u8], query: &[u8; 40]) {
     match reading::read_book(book) {
         Some(found) => {
-            print!(rt; "sound ")?;
-            show_sections(rt, book, found, query)?;
+            let _ = print!(rt; "sound ");
+            show_sections(rt, book, found, query);
         }
-        None => print!(rt; "unsound ")?,
+        None => {
+            let _ = print!(rt; "unsound ");
+        }
     }
-    println!(rt;)
+    let _ = println!(rt;);
+}
+
+// Reads a book. Where standard input ends within it, its other bytes are zeros.
+fn read_next(book: &mut [u8]) {
+    let count = loading::read_input(book);
+    book[count..].fill(0);
 }
 
 // Reads the book behind its length, and shows it where the space holds it.
-fn show_next(rt: &impl Print, head: [u8; 4]) -> io::Result<()> {
+fn show_next(rt: &impl Print, head: [u8; 4], space: &mut [u8]) {
     let size = numbers::read(&head) as usize;
     let mut query = [0; 40];
     loading::read_input(&mut query);
-    let mut space = [0; SPACE];
     if let Some(book) = space.get_mut(..size) {
-        loading::read_input(book);
-        show_book(rt, book, &query)?;
+        read_next(book);
+        show_book(rt, book, &query);
     }
-    Ok(())
 }
 
-// Books one after the other, whether standard output takes each or not.
+// Books one after the other, in one space.
 fn show_books(rt: &impl Print) {
+    let mut space = [0; SPACE];
     for head in (Parts::<4> { most: MOST }) {
-        let _ = show_next(rt, head);
+        show_next(rt, head, &mut space);
     }
 }
 

@@ -15,13 +15,19 @@ pub fn end_of(number: usize, position: usize) -> usize
     (number - 1) * 850 + position
 }
 
-// Writes the bytes that the pairs of digits say over a part, again and again.
-fn repeat(part: &mut [u8], pairs: &[[u8; 2]])
-    requires { 0 < length pairs.now }
+// Writes the bytes that the pairs of digits say over the front of a part, as far as it goes.
+fn write_pairs(part: &mut [u8], pairs: &[[u8; 2]]) {
+    for (byte, [high, low]) in part.iter_mut().zip(pairs) {
+        *byte = digit(*high) * 16 + digit(*low);
+    }
+}
+
+// Writes the first so many bytes of a part over what stands behind them, again and again.
+fn repeat(part: &mut [u8], width: usize)
+    requires { 0 < width }
 {
-    for (i, byte) in part.iter_mut().enumerate() {
-        let [high, low] = pairs[i % pairs.len()];
-        *byte = digit(high) * 16 + digit(low);
+    for i in width..part.len() {
+        part[i] = part[i - width];
     }
 }
 
@@ -32,7 +38,9 @@ pub fn overwrite(space: &mut [u8], from: usize, to: usize, word: &[u8])
     let (pairs, _) = word.as_chunks::<2>();
     let end = to.min(space.len());
     if from < end && !pairs.is_empty() {
-        repeat(&mut space[from..end], pairs);
+        let part = &mut space[from..end];
+        write_pairs(part, pairs);
+        repeat(part, pairs.len());
     }
 }
 
@@ -43,7 +51,7 @@ fn overwrite_records(records: &mut [Record], from: usize, to: usize, word: &[u8]
 
 // Changes the file by the next words: a record's number, the first and the last position, and the bytes for them.
 pub fn change_record<const MOST: usize, const BELOW: usize>(
-    file: &mut File<MOST>,
+    file: &mut File<'_, MOST>,
     words: &mut Words<'_, BELOW>,
 )
     ensures file { file.new.count ≡ file.old.count }
@@ -54,8 +62,9 @@ pub fn change_record<const MOST: usize, const BELOW: usize>(
     let last = words.next_number();
     let bytes = words.next_word().unwrap_or(&[]);
     if first > 0 {
+        let space = &mut *file.space;
         overwrite_records(
-            &mut file.space[..],
+            space,
             end_of(number, first - 1),
             end_of(number, last),
             bytes,

@@ -1,9 +1,8 @@
 // Files of sound records. Each payment is of 100 cents.
-ghost use Rattle.std.specs.Prelude.{◌≡◌, ◌+◌, ◌-◌, ◌*◌, ◌/◌, ◌<◌, ◌≤◌, length, vec_len, IfOk};
+ghost use Rattle.std.specs.Prelude.{◌≡◌, ◌+◌, ◌-◌, ◌*◌, ◌/◌, ◌<◌, ◌≤◌, length};
 
 use crate::words::Shape;
 use record::codes::Letter;
-use std::alloc::{AllocError, Global};
 
 // The bytes of a record.
 pub type Record = [u8; 850];
@@ -74,29 +73,28 @@ fn number_records<const WIDTH: usize>(records: &mut [Record], n: usize)
     }
 }
 
-// A file that is made: so many records in the front of a space for the most. Behind them the space is as it was left.
+// A file that is made: so many records in the front of a space that is borrowed, for the most. Behind them the space is as it was left.
 #[derive(Drop)]
-pub struct File<const MOST: usize> {
-    pub space: Vec<Record>,
+pub struct File<'a, const MOST: usize> {
+    pub space: &'a mut [Record; MOST],
     pub count: usize,
-    ghost fits: { (vec_len space ≡ MOST) × (count ≤ MOST) × (MOST ≤ 65535) },
+    ghost fits: { (count ≤ MOST) × (MOST ≤ 65535) },
 }
 
-impl<const MOST: usize> File<MOST> {
-    // No records, in a space that is blank.
-    pub fn new(alloc: Global) -> Result<File<MOST>, AllocError>
+impl<'a, const MOST: usize> File<'a, MOST> {
+    // No records, in this space.
+    pub fn new(space: &'a mut [Record; MOST]) -> File<'a, MOST>
         requires { MOST ≤ 65535 }
-        ensures { IfOk result (λ file. file.count ≡ 0) }
+        ensures { result.count ≡ 0 }
     {
-        let space = vec![in alloc; [0x40; 850]; MOST]?;
-        Ok(File { space, count: 0 })
+        File { space, count: 0 }
     }
 
     // The bytes of the space.
     pub fn bytes(&self) -> &[u8]
         ensures { length result.now ≡ MOST * 850 }
     {
-        self.space.as_slice().as_flattened()
+        self.space.as_flattened()
     }
 
     // The bytes of the records so far.
@@ -149,7 +147,10 @@ impl<const MOST: usize> File<MOST> {
         requires { (from ≤ self.old.count) × (WIDTH ≤ 14) }
         ensures { self.new.count ≡ self.old.count }
     {
-        number_records::<WIDTH>(&mut self.space[from..self.count], n);
+        let to = self.count;
+        let space = &mut *self.space;
+        let records = &mut space[..];
+        number_records::<WIDTH>(&mut records[from..to], n);
     }
 
     // A header, whose field 9 is the sum of the payments.
@@ -216,7 +217,8 @@ mod tests {
 
     #[test]
     fn a_file_takes_records(rt: HostRuntime) -> Result<(), Fail> {
-        let mut file = File::<2>::new(rt.alloc())?;
+        let mut space = [[0x40; 850]; 2];
+        let mut file = File::new(&mut space);
         assert_eq!(rt; file.made().len(), 0);
         file.push(&[0xC6; 850]);
         assert_eq!(rt; file.count, 1);

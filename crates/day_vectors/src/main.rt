@@ -3,23 +3,24 @@
 
 use calendar::clock;
 use loading::Parts;
-use std::io;
 
 // The most days that are shown.
 const MOST: usize = 100000;
 
 // The number of a day; of what is no day, that it is none.
-fn show_day(rt: &impl Print, lent: &[u8]) -> io::Result<()> {
-    match clock::read_today(lent) {
-        Some(day) => println!(rt; "{}", day.number),
-        None => println!(rt; "none"),
-    }
+// What standard output does not take of a line is left out, and the rest of the line follows.
+fn show_day(rt: &impl Print, lent: &[u8]) {
+    let _ = match clock::read_today(lent) {
+        Some(day) => print!(rt; "{}", day.number),
+        None => print!(rt; "none"),
+    };
+    let _ = println!(rt;);
 }
 
-// Days one after the other, whether standard output takes each or not.
+// Days one after the other.
 fn show_days(rt: &impl Print) {
     for lent in (Parts::<8> { most: MOST }) {
-        let _ = show_day(rt, &lent);
+        show_day(rt, &lent);
     }
 }
 

@@ -18,9 +18,11 @@ fn turn_records(records: &mut [Record], ascii: &[u8; 256]) {
 }
 
 // Turns the records of the file into ASCII.
-pub(crate) fn turn(file: &mut File<MOST>, ascii: &[u8; 256])
+pub(crate) fn turn(file: &mut File<'_, MOST>, ascii: &[u8; 256])
     ensures { file.new.count ≡ file.old.count }
 {
     let count = file.count;
-    turn_records(&mut file.space[0..count], ascii);
+    let space = &mut *file.space;
+    let records = &mut space[..];
+    turn_records(&mut records[..count], ascii);
 }

@@ -14,11 +14,10 @@
 // The first letter tells what an item is; batches stand before the others.
 ghost use Rattle.std.specs.Prelude.{◌≤◌, ◌<◌, length};
 
-use crate::files::Made;
+use crate::files::{MOST, Made};
 use crate::{account_kinds, ascii, changes};
-use cases::files::AtHand;
+use cases::files::{AtHand, Record};
 use cases::words::letter_of;
-use std::alloc::{AllocError, Global};
 
 // The bytes of a code book, at most, and of the space in which today's stand after them.
 pub(crate) const TODAY: usize = 512;
@@ -48,14 +47,14 @@ pub(crate) struct Lent {
 }
 
 #[derive(Drop)]
-pub(crate) struct Case {
-    pub(crate) made: Made,
+pub(crate) struct Case<'a> {
+    pub(crate) made: Made<'a>,
     pub(crate) book: [u8; BOOK],
     pub(crate) lent: Lent,
 }
 
 // All that was made, with room for its rows and nothing for today.
-fn whole(made: &Made, book: usize) -> Lent {
+fn whole(made: &Made<'_>, book: usize) -> Lent {
     Lent {
         file: made.file.count * 850,
         book,
@@ -64,16 +63,16 @@ fn whole(made: &Made, book: usize) -> Lent {
     }
 }
 
-impl Case {
-    // A case with no item yet.
-    pub(crate) fn new(alloc: Global, stock: Stock<'_>) -> Result<Case, AllocError> {
-        let made = Made::new(alloc, stock.at_hand)?;
+impl<'a> Case<'a> {
+    // A case with no item yet, whose file is made in this space.
+    pub(crate) fn new(space: &'a mut [Record; MOST], stock: Stock<'_>) -> Case<'a> {
+        let made = Made::new(space, stock.at_hand);
         let lent = whole(&made, stock.size);
-        Ok(Case {
+        Case {
             made,
             book: *stock.book,
             lent,
-        })
+        }
     }
 
     // The same, over the space of the case before.
@@ -98,7 +97,8 @@ impl Case {
     {
         let kinds = words.next_number();
         let last = words.next_number();
-        account_kinds::change_kinds(&mut self.made.file, kinds, last);
+        let made = &mut self.made;
+        account_kinds::change_kinds(&mut made.file, kinds, last);
     }
 
     // The item of this name, with the words that it takes.
@@ -106,13 +106,14 @@ impl Case {
         requires { 0 < length name.now }
         ensures { length words.new.rest.now ≤ length words.old.rest.now }
     {
+        let made = &mut self.made;
         match name[0] {
             b'B' => self.add_batch(stock, name[name.len() - 1], words),
-            b'a' => cases::changes::change_record(&mut self.made.file, words),
-            b'd' => changes::change_digits(&mut self.made.file, words),
+            b'a' => cases::changes::change_record(&mut made.file, words),
+            b'd' => changes::change_digits(&mut made.file, words),
             b'c' => changes::change_book(&mut self.book, words),
             b'k' => self.change_kinds(words),
-            b'A' => ascii::turn(&mut self.made.file, stock.ascii),
+            b'A' => ascii::turn(&mut made.file, stock.ascii),
             b'f' => self.lent.file = words.next_number(),
             b'b' => self.lent.book = words.next_number(),
             b't' => self.lent.today = words.next_number(),

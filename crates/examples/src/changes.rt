@@ -38,12 +38,13 @@ fn write_in_records(records: &mut [Record], end: usize, digits: &[u8]) {
 }
 
 // A record, a position, and the digits that end there.
-pub(crate) fn change_digits(file: &mut File<MOST>, words: &mut Words<'_>)
+pub(crate) fn change_digits(file: &mut File<'_, MOST>, words: &mut Words<'_>)
     ensures file { file.new.count ≡ file.old.count }
     ensures shorter { length words.new.rest.now ≤ length words.old.rest.now }
 {
     let number = words.next_number();
     let last = words.next_number();
     let digits = words.next_word().unwrap_or(&[]);
-    write_in_records(&mut file.space[..], changes::end_of(number, last), digits);
+    let space = &mut *file.space;
+    write_in_records(space, changes::end_of(number, last), digits);
 }

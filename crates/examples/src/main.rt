@@ -1,5 +1,6 @@
 // Shows what the judge answers to each case of a table (01 File answers, Report): the number that it returns; of an accepted file the
-// numbers of each row; and whether the bytes of the report space outside those rows are as they were.
+// numbers of each row; and whether the bytes of the report space outside those rows are as they were. Each number, blank and word is
+// written by itself: one that standard output does not take is left out, and what comes after it is written all the same.
 #![tactic(auto)]
 
 mod account_kinds;
@@ -12,8 +13,8 @@ ghost use Rattle.std.specs.Prelude.{◌≤◌, length};
 
 use case::{BOOK, Case, Stock, TODAY};
 use cases::files::{AT_HAND, AtHand};
-use std::alloc::AllocError;
-use std::{array, io};
+use files::MOST;
+use std::array;
 
 // The most bytes of the table. A row is a label, then items, each a word that names it and the words that it takes.
 const TABLE: usize = 458752;
@@ -32,83 +33,81 @@ fn marked() -> [u8; REPORT] {
     array::from_fn(|i| (i % 251) as u8)
 }
 
-// Shows the rows that stand in a part of the report.
-fn show_rows(rt: &impl Print, rows: &[u8]) -> io::Result<()> {
-    for row in rows.chunks_exact(64) {
-        for number in row.chunks_exact(8) {
-            print!(rt; " {}", numbers::read(number))?;
-        }
-        print!(rt; " /")?;
+// Shows the eight numbers of a row.
+fn show_numbers(rt: &impl Print, row: &[u8]) {
+    for number in row.chunks_exact(8) {
+        let _ = rt.write_all(b" ");
+        let _ = print!(rt; "{}", numbers::read(number));
     }
-    Ok(())
+    let _ = rt.write_all(b" /");
+}
+
+// Shows the rows that stand in a part of the report.
+fn show_rows(rt: &impl Print, rows: &[u8]) {
+    for row in rows.chunks_exact(64) {
+        show_numbers(rt, row);
+    }
 }
 
 // Shows whether the bytes from here on are as they were.
-fn show_kept(rt: &impl Print, report: &[u8; REPORT], from: usize) -> io::Result<()>
+fn show_kept(rt: &impl Print, report: &[u8; REPORT], from: usize)
     requires { from ≤ 1024 }
 {
     if report[from..] == marked()[from..] {
-        print!(rt; " kept")
+        let _ = rt.write_all(b" kept");
     } else {
-        print!(rt; " changed")
+        let _ = rt.write_all(b" changed");
     }
 }
 
 // Judges, and shows the answer; an accepted file has rows of so many bytes.
-fn show_answer(
-    rt: &impl Print,
-    file: &[u8],
-    book: &[u8],
-    today: &[u8],
-    room: usize,
-    rows: usize,
-) -> io::Result<()>
+fn show_answer(rt: &impl Print, file: &[u8], book: &[u8], today: &[u8], room: usize, rows: usize)
     requires { (room ≤ 1024) × (rows ≤ 1024) }
 {
     let mut report = marked();
     let answer = judge::srf_judge_with(file, book, today, &mut report[..room]);
-    print!(rt; "{answer} /")?;
+    let _ = print!(rt; "{answer}");
+    let _ = rt.write_all(b" /");
     if answer != 0 {
         return show_kept(rt, &report, 0);
     }
-    show_rows(rt, &report[..rows])?;
-    show_kept(rt, &report, rows)
+    show_rows(rt, &report[..rows]);
+    show_kept(rt, &report, rows);
 }
 
 // What a case lends has to lie within its space.
-fn show_case(rt: &impl Print, case: &Case) -> io::Result<()> {
+fn show_case(rt: &impl Print, case: &Case<'_>) {
     let rows = report::room_for(case.made.batches);
     let lent = case.lent;
     if lent.report > REPORT || rows > REPORT {
-        return Ok(());
+        return;
     }
     let Some(file) = case.made.file.bytes().get(..lent.file) else {
-        return Ok(());
+        return;
     };
     let Some(book) = case.book.get(..lent.book) else {
-        return Ok(());
+        return;
     };
     let Some(today) = case.book[TODAY..].get(..lent.today) else {
-        return Ok(());
+        return;
     };
-    show_answer(rt, file, book, today, lent.report, rows)
+    show_answer(rt, file, book, today, lent.report, rows);
 }
 
 // A row: its label, and what the judge answers.
-fn show_line(rt: &impl Print, case: &mut Case, stock: Stock<'_>, row: &[u8]) -> io::Result<()> {
-    let Some((label, items)) = row.split_at_checked(LABEL) else {
-        return Ok(());
-    };
-    rt.write_all(label)?;
-    case.make(stock, items);
-    show_case(rt, case)?;
-    println!(rt;)
+fn show_line(rt: &impl Print, case: &mut Case<'_>, stock: Stock<'_>, row: &[u8]) {
+    if let Some((label, items)) = row.split_at_checked(LABEL) {
+        let _ = rt.write_all(label);
+        case.make(stock, items);
+        show_case(rt, case);
+        let _ = println!(rt;);
+    }
 }
 
-// Shows each row of the table, whether standard output takes the one before or not.
-fn show_table(rt: &impl Print, case: &mut Case, stock: Stock<'_>, table: &[u8]) {
+// Shows each row of the table.
+fn show_table(rt: &impl Print, case: &mut Case<'_>, stock: Stock<'_>, table: &[u8]) {
     for row in table.split(|byte| *byte == b'\n') {
-        let _ = show_line(rt, case, stock, row);
+        show_line(rt, case, stock, row);
     }
 }
 
@@ -128,7 +127,7 @@ fn stock_of<'a>(at_hand: &'a [u8; HAND], book: &'a [u8; BOOK], size: usize) -> S
     }
 }
 
-fn main(rt: HostRuntime) -> Result<(), AllocError> {
+fn main(rt: HostRuntime) {
     let mut book = [0; BOOK];
     let mut at_hand = [0x40; HAND];
     let mut table = [0; TABLE];
@@ -136,7 +135,7 @@ fn main(rt: HostRuntime) -> Result<(), AllocError> {
     read_at_hand(&rt, &mut at_hand);
     let end = loading::read_input(&mut table);
     let stock = stock_of(&at_hand, &book, size);
-    let mut case = Case::new(rt.alloc(), stock)?;
+    let mut space = [[0x40; 850]; MOST];
+    let mut case = Case::new(&mut space, stock);
     show_table(&rt, &mut case, stock, &table[..end]);
-    Ok(())
 }

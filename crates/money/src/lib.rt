@@ -35,8 +35,7 @@ fn moved_amount(rec: &[u8], line: Line, field: Field) -> Amount
 }
 
 // The amount in a field of twenty digits; zero where it is not twenty digits. Most amounts have zeros in their upper half, which count nothing. The
-// widths are written out so that the loops are unrolled. What has to be moved is a function of its own, so that nothing of it is kept on the stack
-// where nothing is moved.
+// widths are written out so that the loops are unrolled. What has to be moved is asked for last.
 pub fn field_amount(rec: &[u8], line: Line, field: Field) -> Amount
     requires { Has rec.now field × (field.width ≡ 20) }
     ensures { result ≡ split (cents (held (seen line rec.now) field)) }

@@ -6,20 +6,33 @@ ghost use Rattle.std.specs.Prelude.{◌≤◌, length};
 ghost use Rattle.nesting.specs.Records.{Cuttable};
 
 use loading::Parts;
-use std::io;
 
 // The most files that are shown, and the most records of one.
 const MOST: usize = 10000;
 
 const RECORDS: usize = 200;
 
-fn show_file(rt: &impl Print, file: &[u8]) -> io::Result<()>
+// A blank and a number. What standard output does not take of a line is left out, and the rest of the line follows.
+fn show(rt: &impl Print, number: usize) {
+    let _ = print!(rt; " ");
+    let _ = print!(rt; "{number}");
+}
+
+fn show_file(rt: &impl Print, file: &[u8])
     requires { Cuttable file.now }
 {
     match survey::survey_file(file, false) {
-        Ok(found) => println!(rt; "legal {} {}", found.counts.batches, found.counts.payments),
-        Err(number) => println!(rt; "refused {number}"),
+        Ok(found) => {
+            let _ = print!(rt; "legal");
+            show(rt, found.counts.batches);
+            show(rt, found.counts.payments);
+        }
+        Err(number) => {
+            let _ = print!(rt; "refused");
+            show(rt, number);
+        }
     }
+    let _ = println!(rt;);
 }
 
 // Reads a record's code and ID.
@@ -33,29 +46,29 @@ fn read_records(records: &mut [[u8; 850]]) {
     }
 }
 
-fn show_records(rt: &impl Print, records: &[[u8; 850]]) -> io::Result<()>
+fn show_records(rt: &impl Print, records: &[[u8; 850]])
     requires { length records.now ≤ 200 }
 {
-    show_file(rt, records.as_flattened())
+    show_file(rt, records.as_flattened());
 }
 
 // Reads a file of so many records, and shows it.
-fn show_next(rt: &impl Print, count: usize) -> io::Result<()>
+fn show_next(rt: &impl Print, count: usize)
     requires { count ≤ 200 }
 {
     let mut space = [[0x40; 850]; RECORDS];
     read_records(&mut space[..count]);
-    show_records(rt, &space[..count])
+    show_records(rt, &space[..count]);
 }
 
-// Files one after the other, whether standard output takes each or not. The first file that is too long ends the list.
+// Files one after the other. The first file that is too long ends the list.
 fn show_files(rt: &impl Print) {
     for head in (Parts::<2> { most: MOST }) {
         let count = numbers::read(&head) as usize;
         if count > RECORDS {
             break;
         }
-        let _ = show_next(rt, count);
+        show_next(rt, count);
     }
 }
 

@@ -151,11 +151,6 @@ module _ (x n : ℕ) (e : x ≡ n) where
   unfolding ◌and◌
   range_high a b h k = rw (← e, le-leb a x h, lt-leb x b k)
 
--- the first bytes of a symbol, a serial number and blanks are the symbol's
-pub symbol_byte : (xs ys : List ℕ) (n i : ℕ) → length xs ≡ 4 → length ys ≡ 8 → i < 4 → get_or xs i 0 ≡ get_or (symbol_and_serial xs ys n) i 0
-unfolding symbol_and_serial
-symbol_byte xs ys n i h k b = sym (get_or-append xs (ys ++ replicate n 0x40) 0 i (omega arith))
-
 -- a symbol, a serial number and eight blanks, put together in place; and so many of their bytes
 module _ (xs ys : List ℕ) (h : length xs ≡ 4) (k : length ys ≡ 8) where
   pub put_together : put_mid 4 8 (xs ++ replicate 16 0x40) ys ≡ symbol_and_serial xs ys 8
@@ -184,6 +179,11 @@ same_bytes (x ∷ xs) (y ∷ ys) = rw (same_bytes xs ys) (go (eqb x y))
     go : (b : Bool) → (b && alike xs ys) ≡ (b and alike xs ys)
     go true = refl
     go false = refl
+
+-- the first bytes of a symbol, a serial number and blanks are the symbol's
+pub symbol_byte : (xs ys : List ℕ) (n i : ℕ) → length xs ≡ 4 → length ys ≡ 8 → i < 4 → get_or xs i 0 ≡ get_or (symbol_and_serial xs ys n) i 0
+unfolding symbol_and_serial
+symbol_byte xs ys n i h k b = sym (get_or-append xs (ys ++ replicate n 0x40) 0 i (omega arith))
 
 -- of copies of the field and of the serial number
 pub composed_held : (r : Bool) (own field symbol serial number : List ℕ) (width : ℕ) → own ≡ field → length field ≡ width → serial ≡ number

@@ -9,6 +9,7 @@ use Rattle.reasons.proofs.checks.check_symbol.Reads as check-symbol
 use Rattle.reasons.proofs.checks.number_is.Reads as number_is
 use Rattle.reasons.proofs.checks.unrepeated.Reads as unrepeated
 use Rattle.reasons.proofs.checks.composed.Reads as composed
+use Rattle.reasons.proofs.U64FromReason.from.Reads as from
 use Rattle.reasons.proofs.find.Reads as find
 use Rattle.reasons.proofs.note.Reads as note
 use Rattle.reasons.proofs.lists.voucher_form.Reads as voucher-form
@@ -51,6 +52,10 @@ unrepeated_unique κs a r s x y p q = p ∙ sym q
 
 pub composed_unique : OneResult composed.Post
 composed_unique κs a r s x y p q = p ∙ sym q
+
+-- a reason's number
+pub from_unique : OneResult from.Post
+from_unique κs a r s x y p q = p ∙ sym q
 
 pub find_unique : OneResult find.Post
 find_unique κs a r s x y p q = p ∙ sym q

@@ -65,10 +65,6 @@ pub no_frame : (y : ℕ) → (y ≡ 0xC8 → ⊥) → (y ≡ 0xE3 → ⊥) → U
 unfolding code_in code_bytes letter_byte alike choose ◌and◌
 no_frame y a b = rw (ne_eqb y 0xC8 a, ne_eqb y 0xE3 b)
 
--- a test of a record's code, by its two bytes
-pub pair_test : (q : Code → Bool) (rec xs : List ℕ) (x y : ℕ) (b : Bool) → length xs ≡ 2 → xs ≡ held rec record_code → get_or xs 0 0 ≡ x → get_or xs 1 0 ≡ y → b ≡ q (code_in codes (x ∷ y ∷ [])) → b ≡ q (code_of rec)
-pair_test q rec xs x y b n h e f t = t ∙ ap q (code_read rec xs (code_in codes (x ∷ y ∷ [])) h (pair_code xs x y (code_in codes (x ∷ y ∷ [])) n e f refl))
-
 -- each code of the list fails: of itself, or since the bytes are others
 data AllFail (q : Code → Bool) (xs : List ℕ) : List Code → Type 0 where
   none : AllFail q xs []
@@ -84,26 +80,6 @@ none_in q (c ∷ cs) xs u (other _ _ e h) = go (alike xs (code_bytes c)) (none_i
     go true r = e
     go false r = r
 none_in q (c ∷ cs) xs u (apart _ _ e h) = rw e (none_in q cs xs u h)
-
-pub other_first_detail : (x y : ℕ) → (x ≡ 0xC4 → ⊥) → false ≡ is_detail (code_in codes (x ∷ y ∷ []))
-unfolding code_bytes alike ◌and◌ is_detail
-other_first_detail x y a =
-    let f : (l : Letter) → alike (x ∷ y ∷ []) (code_bytes (Detail l)) ≡ false = λ l. rw (ne_eqb x 0xC4 a) in
-    sym (none_in is_detail codes (x ∷ y ∷ []) refl (other _ _ refl (other _ _ refl (other _ _ refl (apart _ _ (f N) (apart _ _ (f C) (apart _ _ (f W) (apart _ _ (f I) (apart _ _ (f A) (other _ _ refl (other _ _ refl (other _ _ refl (other _ _ refl (other _ _ refl (other _ _ refl (other _ _ refl (other _ _ refl none)))))))))))))))))
-
-pub other_second_detail : (y : ℕ) → (y ≡ 0xD5 → ⊥) → (y ≡ 0xC3 → ⊥) → (y ≡ 0xE6 → ⊥) → (y ≡ 0xC9 → ⊥) → (y ≡ 0xC1 → ⊥) → false ≡ is_detail (code_in codes (0xC4 ∷ y ∷ []))
-unfolding code_bytes letter_byte alike ◌and◌ is_detail
-other_second_detail y a b c d e = sym (none_in is_detail codes (0xC4 ∷ y ∷ []) refl (other _ _ refl (other _ _ refl (other _ _ refl (apart _ _ (rw (ne_eqb y 0xD5 a)) (apart _ _ (rw (ne_eqb y 0xC3 b)) (apart _ _ (rw (ne_eqb y 0xE6 c)) (apart _ _ (rw (ne_eqb y 0xC9 d)) (apart _ _ (rw (ne_eqb y 0xC1 e)) (other _ _ refl (other _ _ refl (other _ _ refl (other _ _ refl (other _ _ refl (other _ _ refl (other _ _ refl (other _ _ refl none)))))))))))))))))
-
-pub other_first_header : (x y : ℕ) → (x ≡ 0xC2 → ⊥) → false ≡ is_header (code_in codes (x ∷ y ∷ []))
-unfolding code_bytes alike ◌and◌ is_header
-other_first_header x y a =
-    let f : (l : Letter) → alike (x ∷ y ∷ []) (code_bytes (Batch l)) ≡ false = λ l. rw (ne_eqb x 0xC2 a) in
-    sym (none_in is_header codes (x ∷ y ∷ []) refl (other _ _ refl (other _ _ refl (other _ _ refl (other _ _ refl (other _ _ refl (other _ _ refl (other _ _ refl (other _ _ refl (apart _ _ (f N) (apart _ _ (f C) (apart _ _ (f W) (apart _ _ (f I) (apart _ _ (f A) (other _ _ refl (other _ _ refl (other _ _ refl none)))))))))))))))))
-
-pub other_second_header : (y : ℕ) → (y ≡ 0xD5 → ⊥) → (y ≡ 0xC3 → ⊥) → (y ≡ 0xE6 → ⊥) → (y ≡ 0xC9 → ⊥) → (y ≡ 0xC1 → ⊥) → false ≡ is_header (code_in codes (0xC2 ∷ y ∷ []))
-unfolding code_bytes letter_byte alike ◌and◌ is_header
-other_second_header y a b c d e = sym (none_in is_header codes (0xC2 ∷ y ∷ []) refl (other _ _ refl (other _ _ refl (other _ _ refl (other _ _ refl (other _ _ refl (other _ _ refl (other _ _ refl (other _ _ refl (apart _ _ (rw (ne_eqb y 0xD5 a)) (apart _ _ (rw (ne_eqb y 0xC3 b)) (apart _ _ (rw (ne_eqb y 0xE6 c)) (apart _ _ (rw (ne_eqb y 0xC9 d)) (apart _ _ (rw (ne_eqb y 0xC1 e)) (other _ _ refl (other _ _ refl (other _ _ refl none)))))))))))))))))
 
 -- each code is the one that its own bytes give: no two share their bytes
 pub codes_apart : (c : Code) → code_in codes (code_bytes c) ≡ c

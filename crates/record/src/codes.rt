@@ -1,10 +1,13 @@
 // Record codes (004 section 1.2), compared with their fixed EBCDIC bytes.
-ghost use Rattle.std.specs.Prelude.{◌≡◌, ◌≤◌, length};
+ghost use Rattle.std.specs.Prelude.{◌≡◌, ◌≤◌, true, length};
+ghost use Rattle.page.specs.CodePage.{twins};
 ghost use Rattle.record.specs.Fields.{record_code};
+ghost use Rattle.record.specs.Tests.{alike};
 ghost use Rattle.record.specs.Value.{seen, held};
 ghost use Rattle.record.specs.Codes.{code_in, code_of, codes, is_detail, is_header, is_trailer, letter_in};
 
-use crate::Line;
+use crate::layout::RECORD_CODE;
+use crate::{Line, place};
 use page::translate_all;
 
 // The kind of a batch and of its details.
@@ -77,26 +80,55 @@ pub fn is_detail(code: Code) -> bool
     matches!(code, Code::Detail(_))
 }
 
-// The record is a detail: its bytes are asked for five codes, which is less than which of sixteen they are.
+// The record begins with this code, which ASCII files send as the second. A record code is never moved.
+fn has_code<'a>(rec: &[u8], line: Line, text: &'a [u8], ascii: &'a [u8]) -> bool
+    requires { (2 ≤ length rec.now) × (twins ascii.now text.now ≡ true) }
+    ensures { result ≡ alike (held (seen line rec.now) record_code) text.now }
+{
+    place::is_text(rec, place::locate(rec, line, RECORD_CODE), text, ascii)
+}
+
+// The record is a detail: one of five codes, compared as they were sent. DX is asked for first: a batch has one for each detail, or more (01 Nesting).
 pub fn has_detail(rec: &[u8], line: Line) -> bool
     requires { 2 ≤ length rec.now }
     ensures { result ≡ is_detail (code_of (seen line rec.now)) }
 {
-    matches!(
-        &code_bytes(rec, line),
-        b"\xC4\xD5" | b"\xC4\xC3" | b"\xC4\xE6" | b"\xC4\xC9" | b"\xC4\xC1"
-    )
+    if has_code(rec, line, b"\xC4\xE7", b"DX") {
+        return false;
+    }
+    if has_code(rec, line, b"\xC4\xD5", b"DN") {
+        return true;
+    }
+    if has_code(rec, line, b"\xC4\xC3", b"DC") {
+        return true;
+    }
+    if has_code(rec, line, b"\xC4\xE6", b"DW") {
+        return true;
+    }
+    if has_code(rec, line, b"\xC4\xC9", b"DI") {
+        return true;
+    }
+    has_code(rec, line, b"\xC4\xC1", b"DA")
 }
 
-// The record is a batch header, the same way.
+// The record is a batch header: one of five codes, compared as they were sent.
 pub fn has_header(rec: &[u8], line: Line) -> bool
     requires { 2 ≤ length rec.now }
     ensures { result ≡ is_header (code_of (seen line rec.now)) }
 {
-    matches!(
-        &code_bytes(rec, line),
-        b"\xC2\xD5" | b"\xC2\xC3" | b"\xC2\xE6" | b"\xC2\xC9" | b"\xC2\xC1"
-    )
+    if has_code(rec, line, b"\xC2\xD5", b"BN") {
+        return true;
+    }
+    if has_code(rec, line, b"\xC2\xC3", b"BC") {
+        return true;
+    }
+    if has_code(rec, line, b"\xC2\xE6", b"BW") {
+        return true;
+    }
+    if has_code(rec, line, b"\xC2\xC9", b"BI") {
+        return true;
+    }
+    has_code(rec, line, b"\xC2\xC1", b"BA")
 }
 
 // The code is BT.

@@ -66,7 +66,9 @@ fn set_flag(flags: &mut [u8], index: usize, after: usize, known: bool)
 }
 
 // One block of headers, from a place and the index of the first flag there on: every flag is set whose batch has the number of an earlier one in
-// the block. The next block begins at the first header that this one has no room for, or at the number of records.
+// the block. The next block begins at the first header that this one has no room for, or at the number of records. It is never drawn into its caller,
+// so that the table is on the stack only while numbers are marked.
+#[inline(never)]
 fn mark_block(
     file: &[u8],
     ascii: bool,

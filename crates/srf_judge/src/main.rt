@@ -3,8 +3,6 @@
 
 ghost use Rattle.std.specs.Prelude.{◌≤◌, length};
 
-use std::io;
-
 // The most bytes of a file and of a book, and one more, by which a longer one shows.
 const MOST: usize = 65536;
 
@@ -17,20 +15,21 @@ const REPORT: usize = 4096;
 const BATCHES: usize = 48;
 
 // The row's eight numbers with single blanks.
-fn show_row(rt: &impl Print, row: &[u8]) -> io::Result<()> {
+// What standard output does not take of a line is left out, and the rest of the line follows.
+fn show_row(rt: &impl Print, row: &[u8]) {
     for (k, number) in row.chunks_exact(8).enumerate() {
         if k > 0 {
-            print!(rt; " ")?;
+            let _ = print!(rt; " ");
         }
-        print!(rt; "{}", numbers::read(number))?;
+        let _ = print!(rt; "{}", numbers::read(number));
     }
-    println!(rt;)
+    let _ = println!(rt;);
 }
 
-// The rows that stand in a part of the report, whether standard output takes each or not.
+// The rows that stand in a part of the report.
 fn show_rows(rt: &impl Print, rows: &[u8]) {
     for row in rows.chunks_exact(64) {
-        let _ = show_row(rt, row);
+        show_row(rt, row);
     }
 }
 
@@ -52,7 +51,8 @@ fn show_answer(rt: &impl Print, file: &[u8], book: &[u8]) {
     if answer == 0 {
         show_report(rt, &report);
     } else {
-        let _ = println!(rt; "{answer}");
+        let _ = print!(rt; "{answer}");
+        let _ = println!(rt;);
     }
 }
 

@@ -1,4 +1,5 @@
-// Sorted tables of places: records in ascending order of a key, each value once. A table lies with the caller, of any size.
+// Sorted tables of places: records in ascending order of a key, each value once. A table lies with the caller, of any size; `Table` has its count
+// with it.
 #![tactic(auto)]
 
 mod kind;
@@ -48,8 +49,90 @@ fn compare(file: &[u8], first: Line, place: usize, other: usize, key: Key) -> Or
     }
 }
 
-// The places of records: the first `count` of them, in ascending order of what the table is ordered by.
-#[derive(Drop)]
+// What became of a record, and how many places the table holds after it.
+#[derive(Clone, Copy, PartialEq, Eq)]
+pub struct Entered {
+    pub entry: Entry,
+    pub count: usize,
+}
+
+// Where the record's value stands among the first `count` places of the table, or else where it would stand: binary search.
+// The halving stands here: `binary_search_by` asks for a closure that is safe at any place, and `compare` is so only at places of whole records.
+fn seek(
+    file: &[u8],
+    first: Line,
+    place: usize,
+    key: Key,
+    table: &[u16],
+    count: usize,
+) -> Result<usize, usize>
+    requires { Tabled first.number key (seen first file.now) table.now count × Stands first.number place file.now × InRecord key }
+    ensures at { MatchResult result (λ at. at ≡ rank (value_at first.number key (seen first file.now) place) (kept first.number key (seen first file.now) table.now count)) (λ at. at ≡ rank (value_at first.number key (seen first file.now) place) (kept first.number key (seen first file.now) table.now count)) }
+    ensures taken { is_ok result ≡ member (value_at first.number key (seen first file.now) place) (kept first.number key (seen first file.now) table.now count) }
+{
+    let mut low: usize = 0;
+    let mut high = count;
+    while low < high {
+        let middle = low + (high - low) / 2;
+        let other = table[middle] as usize;
+        match compare(file, first, other, place, key) {
+            Ordering::Less => {
+                low = middle + 1;
+            }
+            Ordering::Greater => {
+                high = middle;
+            }
+            Ordering::Equal => {
+                return Ok(middle);
+            }
+        }
+    }
+    Err(low)
+}
+
+// Puts the place into the table at the seat; the places from there on move up.
+fn insert(table: &mut [u16], count: usize, seat: usize, place: usize)
+    requires { (count < length table.old) × (length table.old ≤ 65536) × (seat ≤ count) × (place < 65536) }
+    ensures { table.new ≡ inserted_at table.old count seat place }
+{
+    table.copy_within(seat..count, seat + 1);
+    table[seat] = place as u16;
+}
+
+// Enters the record at the place into the first `count` places of a table that is lent, unless its value is there already or the table is full.
+pub fn enter(
+    file: &[u8],
+    first: Line,
+    place: usize,
+    key: Key,
+    table: &mut [u16],
+    count: usize,
+) -> Entered
+    requires { Tabled first.number key (seen first file.now) table.old count × Stands first.number place file.now × (place < 65536) × InRecord key }
+    ensures answer { (result.entry ≡ entry_of first.number key (seen first file.now) table.old count place) × (result.count ≡ count_after first.number key (seen first file.now) table.old count place) }
+    ensures after { table.new ≡ table_after first.number key (seen first file.now) table.old count place }
+{
+    let Err(seat) = seek(file, first, place, key, table, count) else {
+        return Entered {
+            entry: Entry::Known,
+            count,
+        };
+    };
+    if count < table.len() {
+        insert(table, count, seat, place);
+        return Entered {
+            entry: Entry::New,
+            count: count + 1,
+        };
+    }
+    Entered {
+        entry: Entry::Full,
+        count,
+    }
+}
+
+// A table with its count: the places of records, the first `count` of them, in ascending order of what the table is ordered by.
+#[derive(Clone, Copy)]
 pub struct Table<const N: usize> {
     places: [u16; N],
     count: usize,
@@ -74,45 +157,6 @@ impl<const N: usize> Table<N> {
         self.count
     }
 
-    // Where the record's value stands among the places of the table, or else where it would stand: binary search.
-    // The halving stands here: `binary_search_by` asks for a closure that is safe at any place, and `compare` is so only at places of whole records.
-    fn seek(&self, file: &[u8], first: Line, place: usize, key: Key) -> Result<usize, usize>
-        requires { Tabled first.number key (seen first file.now) self.now.places self.now.count × Stands first.number place file.now × InRecord key }
-        ensures at { MatchResult result (λ at. at ≡ rank (value_at first.number key (seen first file.now) place) (kept first.number key (seen first file.now) self.now.places self.now.count)) (λ at. at ≡ rank (value_at first.number key (seen first file.now) place) (kept first.number key (seen first file.now) self.now.places self.now.count)) }
-        ensures taken { is_ok result ≡ member (value_at first.number key (seen first file.now) place) (kept first.number key (seen first file.now) self.now.places self.now.count) }
-    {
-        let mut low: usize = 0;
-        let mut high = self.count;
-        while low < high {
-            let middle = low + (high - low) / 2;
-            let other = self.places[middle] as usize;
-            match compare(file, first, other, place, key) {
-                Ordering::Less => {
-                    low = middle + 1;
-                }
-                Ordering::Greater => {
-                    high = middle;
-                }
-                Ordering::Equal => {
-                    return Ok(middle);
-                }
-            }
-        }
-        Err(low)
-    }
-
-    // Puts the place into the table at the seat; the places from there on move up.
-    fn insert(&mut self, seat: usize, place: usize)
-        requires { (self.old.count < length self.old.places) × (length self.old.places ≤ 65536) × (seat ≤ self.old.count) × (place < 65536) }
-        ensures more { self.new.count ≡ self.old.count + 1 }
-        ensures after { self.new.places ≡ inserted_at self.old.places self.old.count seat place }
-    {
-        let Table { places, count } = self;
-        places.copy_within(seat..*count, seat + 1);
-        places[seat] = place as u16;
-        *count += 1;
-    }
-
     // Enters the record at the place, unless its value is there already or the table is full.
     pub fn enter(&mut self, file: &[u8], first: Line, place: usize, key: Key) -> Entry
         requires { Tabled first.number key (seen first file.now) self.old.places self.old.count × Stands first.number place file.now × (place < 65536) × InRecord key }
@@ -120,13 +164,9 @@ impl<const N: usize> Table<N> {
         ensures more { self.new.count ≡ count_after first.number key (seen first file.now) self.old.places self.old.count place }
         ensures after { self.new.places ≡ table_after first.number key (seen first file.now) self.old.places self.old.count place }
     {
-        let Err(seat) = self.seek(file, first, place, key) else {
-            return Entry::Known;
-        };
-        if self.count < N {
-            self.insert(seat, place);
-            return Entry::New;
-        }
-        Entry::Full
+        let Table { places, count } = self;
+        let entered = enter(file, first, place, key, places, *count);
+        *count = entered.count;
+        entered.entry
     }
 }

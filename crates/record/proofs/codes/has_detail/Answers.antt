@@ -1,36 +1,58 @@
 use mathlib.Core.Path.{refl}
 use mathlib.Core.Bool.{true, false}
-use Rattle.record.specs.Choice.{◌and◌, choose}
-use Rattle.record.specs.Codes.{code_in, code_bytes, letter_byte, is_detail}
-use Rattle.record.specs.Tests.{alike}
-use Rattle.record.proofs.CodeList.{pair_test, other_first_detail, other_second_detail}
+use Rattle.page.specs.CodePage.{code_page, ebcdic, twins}
+use Rattle.record.specs.declared.codes.Code.TheVariants.{Detail, Party}
+use Rattle.record.specs.declared.codes.Letter.TheVariants.{N, C, W, I}
+use Rattle.record.specs.Codes.{code_bytes, letter_byte, is_detail}
+use Rattle.record.proofs.Chain.{told}
+use Rattle.record.proofs.CodeList.{named, last_detail}
 use borrow.Author.Rules.{rules}
 use Rattle.record.proofs.codes.has_detail.Goals as goal
 
-pub returns-in-196 : goal.returns-in-196
-unfolding code_in code_bytes letter_byte alike choose ◌and◌ is_detail
-returns-in-196 c = pair_test is_detail _ _ 0xC4 0xD5 true (search rules) c.code_bytes.ensures (search rules) (search rules) refl
+pub has_code-requires : goal.has_code-requires
+unfolding twins ebcdic code_page
+has_code-requires c = search rules
 
-pub returns-in-196-2 : goal.returns-in-196-2
-unfolding code_in code_bytes letter_byte alike choose ◌and◌ is_detail
-returns-in-196-2 c = pair_test is_detail _ _ 0xC4 0xC3 true (search rules) c.code_bytes.ensures (search rules) (search rules) refl
+pub returns-then-has_code : goal.returns-then-has_code
+unfolding code_bytes letter_byte is_detail
+returns-then-has_code c = named is_detail Party false _ refl (search (rules, told))
 
-pub returns-in-196-3 : goal.returns-in-196-3
-unfolding code_in code_bytes letter_byte alike choose ◌and◌ is_detail
-returns-in-196-3 c = pair_test is_detail _ _ 0xC4 0xE6 true (search rules) c.code_bytes.ensures (search rules) (search rules) refl
+pub has_code-requires-2 : goal.has_code-requires-2
+unfolding twins ebcdic code_page
+has_code-requires-2 c = search rules
 
-pub returns-in-196-4 : goal.returns-in-196-4
-unfolding code_in code_bytes letter_byte alike choose ◌and◌ is_detail
-returns-in-196-4 c = pair_test is_detail _ _ 0xC4 0xC9 true (search rules) c.code_bytes.ensures (search rules) (search rules) refl
+pub returns-then-has_code-2 : goal.returns-then-has_code-2
+unfolding code_bytes letter_byte is_detail
+returns-then-has_code-2 c = named is_detail (Detail N) true _ refl (search (rules, told))
 
-pub returns-in-196-5 : goal.returns-in-196-5
-unfolding code_in code_bytes letter_byte alike choose ◌and◌ is_detail
-returns-in-196-5 c = pair_test is_detail _ _ 0xC4 0xC1 true (search rules) c.code_bytes.ensures (search rules) (search rules) refl
+pub has_code-requires-3 : goal.has_code-requires-3
+unfolding twins ebcdic code_page
+has_code-requires-3 c = search rules
 
-pub returns-in_default : goal.returns-in_default
-returns-in_default c =
-    pair_test is_detail _ _ 0xC4 _ false (search rules) c.code_bytes.ensures (search rules) refl
-    (other_second_detail _ (search rules) (search rules) (search rules) (search rules) (search rules))
+pub returns-then-has_code-3 : goal.returns-then-has_code-3
+unfolding code_bytes letter_byte is_detail
+returns-then-has_code-3 c = named is_detail (Detail C) true _ refl (search (rules, told))
 
-pub returns-in_default-2 : goal.returns-in_default-2
-returns-in_default-2 c = pair_test is_detail _ _ _ _ false (search rules) c.code_bytes.ensures refl refl (other_first_detail _ _ (search rules))
+pub has_code-requires-4 : goal.has_code-requires-4
+unfolding twins ebcdic code_page
+has_code-requires-4 c = search rules
+
+pub returns-then-has_code-4 : goal.returns-then-has_code-4
+unfolding code_bytes letter_byte is_detail
+returns-then-has_code-4 c = named is_detail (Detail W) true _ refl (search (rules, told))
+
+pub has_code-requires-5 : goal.has_code-requires-5
+unfolding twins ebcdic code_page
+has_code-requires-5 c = search rules
+
+pub returns-then-has_code-5 : goal.returns-then-has_code-5
+unfolding code_bytes letter_byte is_detail
+returns-then-has_code-5 c = named is_detail (Detail I) true _ refl (search (rules, told))
+
+pub has_code-requires-6 : goal.has_code-requires-6
+unfolding twins ebcdic code_page
+has_code-requires-6 c = search rules
+
+pub returns : goal.returns
+unfolding code_bytes letter_byte
+returns c = search (rules, told, last_detail)
