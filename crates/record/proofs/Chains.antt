@@ -10,19 +10,15 @@ use native.Mathlib.Numerals.{add-one}
 use lib.Dec.{leb, eqb}
 use lib.ListN.{length, drop, get_or, drop_of_length-le}
 use lib.Seq.{drop-cons}
-use borrow.Author.Tests.{le-leb, lt-leb, leb-true, leb-false, lt-ltb, le-ltb, eq-eqb, ne_eqb}
-use Rattle.std.specs.Cmp.Lexicographic.{pointwise, slice_cmp}
+use borrow.Author.Tests.{le-leb, lt-leb, leb-true, leb-false}
+use Rattle.std.specs.Cmp.Lexicographic.{pointwise}
 use Rattle.std.specs.List.{fold, list_all}
-use Rattle.std.specs.Ordering.{nat_cmp, ordering_then}
-use Rattle.std.specs.declared.cmp.Ordering.{Ordering}
 use Rattle.std.specs.Prelude.{nat_eq}
 use Rattle.record.specs.Choice.{◌and◌, choose}
-use Rattle.record.specs.Ordering.{order}
 use Rattle.record.specs.Place.{near, least_printable}
 use Rattle.record.specs.Tests.{every, least_from, alike}
 use Rattle.record.proofs.Chain.{and_true}
 use Rattle.record.proofs.Every.{and_swap}
-use Rattle.record.proofs.Orders.{Side, less, more, same, side, before, after, level}
 
 -- `all`
 pub every_all : (q : ℕ → Bool) (xs : List ℕ) → list_all q xs ≡ every q xs
@@ -46,26 +42,10 @@ alike_pointwise (x ∷ xs) (y ∷ ys) = go (eqb x y) ∙ ap (λ (b : Bool). eqb 
     go true = refl
     go false = refl
 
--- `cmp`
-order_step : (x y : ℕ) (xs ys : List ℕ) → Side x y → slice_cmp nat_cmp xs ys ≡ order xs ys → ordering_then (nat_cmp x y) (slice_cmp nat_cmp xs ys) ≡ order (x ∷ xs) (y ∷ ys)
-order_step x y xs ys (less h) m = rw (lt-ltb x y h) (sym (before x y xs ys h))
-order_step x y xs ys (more h) m = rw (le-ltb x y (omega arith), ne_eqb x y (λ e. absurd (omega (arith, e)))) (sym (after x y xs ys h))
-order_step x y xs ys (same h k) m = rw (le-ltb x y k, eq-eqb x y (omega arith)) (m ∙ sym (level x y xs ys h k))
-
-order_cmp : (xs ys : List ℕ) → slice_cmp nat_cmp xs ys ≡ order xs ys
-unfolding order
-order_cmp [] [] = refl
-order_cmp [] (y ∷ ys) = refl
-order_cmp (x ∷ xs) [] = refl
-order_cmp (x ∷ xs) (y ∷ ys) = order_step x y xs ys (side x y) (order_cmp xs ys)
-
 -- the same of two lists that are known by other names
 module _ (xs ys cs ds : List ℕ) (p : xs ≡ cs) (q : ys ≡ ds) where
   pub alike_of : (r : Bool) → r ≡ pointwise nat_eq xs ys → r ≡ alike cs ds
   alike_of r e = e ∙ alike_pointwise xs ys ∙ ap (alike xs) q ∙ ap (λ (zs : List ℕ). alike zs ds) p
-
-  pub order_of : (o : Ordering) → o ≡ slice_cmp nat_cmp xs ys → o ≡ order cs ds
-  order_of o e = e ∙ order_cmp xs ys ∙ ap (order xs) q ∙ ap (λ (zs : List ℕ). order zs ds) p
 
 -- the folds
 least_swap : (x y : ℕ) → min x y ≡ min y x

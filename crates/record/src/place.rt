@@ -199,13 +199,21 @@ pub(crate) fn is_text<'a>(rec: &[u8], place: Place, text: &'a [u8], ascii: &'a [
     sent(rec, place) == sent_text(place, text, ascii)
 }
 
-// How the first bytes stand to the second in the order of bytes, as they were sent.
+// How the first bytes stand to the second in the order of bytes, as they were sent. The slices' own `cmp` is a call at each step of a search.
 #[inline(always)]
 pub(crate) fn sent_order(rec: &[u8], place: Place, other: &[u8], there: Place) -> Ordering
     requires { Within rec.now place × Within other.now there }
     ensures { result ≡ order (sent rec.now place) (sent other.now there) }
 {
-    sent(rec, place).cmp(sent(other, there))
+    let bytes = sent(rec, place);
+    let others = sent(other, there);
+    for (byte, beside) in bytes.iter().zip(others) {
+        match byte.cmp(beside) {
+            Ordering::Equal => {}
+            apart => return apart,
+        }
+    }
+    bytes.len().cmp(&others.len())
 }
 
 // How the first value stands to the second in the order of bytes, both ASCII: bytes that were sent alike are not translated.
